@@ -1,0 +1,13 @@
+pub mod BuilderLemmas
+pub mod CellLemmas
+pub mod Children
+pub mod Gained
+pub mod GrowLemmas
+pub mod ImageLemmas
+pub mod KindsLemmas
+pub mod Lists
+pub mod NumberLemmas
+pub mod PathLemmas
+pub mod Rows
+pub mod Shown
+pub mod Sizes

@@ -1,0 +1,114 @@
+-- What a builder of documents means.
+use Rattle.std.specs.Prelude.{ℕ, ◌+◌, ◌%◌, ◌/◌, ◌<◌, ◌≤◌, ◌≡◌, List, [], ◌∷◌, ◌++◌, length, take, drop, Bool, true, false, Option, Some, None, refl}
+use Rattle.std.specs.Coded.{Coded, code_by, coded×, coded_list, coded_ℕ, coded_bool, coded_option}
+use Rattle.sw_tree.specs.Tree as tree
+use Rattle.sw_tree.specs.Tree.{Tree, trees, entries, turns, trees_depth}
+use Rattle.sw_tree.specs.TreeCode.{coded_tree}
+use Rattle.sw_tree.specs.declared.cell.Cell.{Cell}
+use Rattle.sw_tree.specs.declared.cell.Cell.TheVariants.{List as Items, Map}
+use Rattle.sw_tree.specs.declared.builder.Open.{Open}
+use Rattle.sw_tree.specs.Cells.{Store, forest, Formed}
+
+-- an open list or map with its finished children, a map's keys and values by turns
+pub record Frame : Type 0 where
+  pub is_map : Bool
+  pub children : List Tree
+
+-- the input, how long the text beside it is, the open lists and maps, the innermost first, and the finished root
+pub record Built : Type 0 where
+  pub input : List ℕ
+  pub side_len : ℕ
+  pub frames : List Frame
+  pub root : Option Tree
+
+abbrev pub added_to : Built → List Frame → Tree → Built
+added_to b [] t = record { input = b.input; side_len = b.side_len; frames = []; root = Some t }
+added_to b (f ∷ outer) t = record { input = b.input; side_len = b.side_len; frames = record { is_map = f.is_map; children = f.children ++ t ∷ [] } ∷ outer; root = b.root }
+
+-- with a further child of the innermost, or with the root
+abbrev pub added : Built → Tree → Built
+added b t = added_to b b.frames t
+
+abbrev pub gained_in : Built → List Frame → List Tree → Built
+gained_in b [] ts = b
+gained_in b (f ∷ outer) ts = record { input = b.input; side_len = b.side_len; frames = record { is_map = f.is_map; children = f.children ++ ts } ∷ outer; root = b.root }
+
+-- with these further children of the innermost
+abbrev pub gained : Built → List Tree → Built
+gained b ts = gained_in b b.frames ts
+
+-- with that many bytes more beside the input
+abbrev pub longer : Built → ℕ → Built
+longer b n = record { input = b.input; side_len = b.side_len + n; frames = b.frames; root = b.root }
+
+abbrev pub opened : Built → Bool → Built
+opened b is_map = record { input = b.input; side_len = b.side_len; frames = record { is_map = is_map; children = [] } ∷ b.frames; root = b.root }
+
+abbrev pub built_tree : Bool → List Tree → Tree
+built_tree false ts = tree.list (trees ts)
+built_tree true ts = tree.map (entries (turns ts))
+
+abbrev pub closed_from : Built → List Frame → Built
+closed_from b [] = b
+closed_from b (f ∷ outer) = added_to b outer (built_tree f.is_map f.children)
+
+-- with the innermost finished
+abbrev pub closed : Built → Built
+closed b = closed_from b b.frames
+
+-- a map has as many keys as values
+abbrev pub IsComplete : Bool → List Tree → Type 0
+IsComplete false ts = Unit {0}
+IsComplete true ts = length ts % 2 ≡ 0
+
+abbrev pub CanCloseFrom : List Frame → Type 0
+CanCloseFrom [] = ⊥
+CanCloseFrom (f ∷ outer) = IsComplete f.is_map f.children
+
+abbrev pub CanClose : Built → Type 0
+CanClose b = CanCloseFrom b.frames
+
+abbrev pub root_of : List Tree → Option Tree
+root_of [] = None
+root_of (t ∷ ts) = Some t
+
+abbrev pub open_of : Store → List Open → List Cell → List Frame
+open_of s [] cells = []
+open_of s (o ∷ outer) cells = record { is_map = o.is_map; children = forest s (drop (o.at + 1) cells) } ∷ open_of s outer (take o.at cells)
+
+abbrev pub done_of : Store → List Open → List Cell → List Tree
+done_of s [] cells = forest s cells
+done_of s (o ∷ outer) cells = done_of s outer (take o.at cells)
+
+-- The cells behind each open list fit one another, and are as many trees as are counted.
+pub record Segment (s : Store) (d : ℕ) (cells : List Cell) (kids : ℕ) : Type 0 where
+  pub formed : Formed s cells
+  pub counted : kids ≡ length (forest s cells)
+  pub shallow : trees_depth (trees (forest s cells)) + d ≤ 128
+
+-- the outermost stands first
+abbrev pub IsFirst : List Open → ℕ → Type 0
+IsFirst [] at = at ≡ 0
+IsFirst (o ∷ outer) at = Unit {0}
+
+abbrev pub Stacked : Store → List Open → List Cell → ℕ → Type 0
+Stacked s [] cells kids = Segment s 0 cells kids
+Stacked s (o ∷ outer) cells kids =
+    (o.at < length cells) × IsFirst outer o.at × Segment s (length outer + 1) (drop (o.at + 1) cells) kids × Stacked s outer (take o.at cells) o.kids
+
+-- what a builder means, with the open lists and maps the innermost first
+abbrev pub meant : Store → List Open → List Cell → Built
+meant s r cells = record { input = s.input; side_len = length s.side; frames = open_of s r cells; root = root_of (done_of s r cells) }
+
+abbrev coded_frame : Coded Frame
+coded_frame = code_by (Bool × List Tree) (coded× coded_bool (coded_list coded_tree)) (λ f. (f.is_map, f.children)) (λ p. record { is_map = p.0; children = p.1 }) (λ _. refl)
+
+abbrev pub coded_built : Coded Built
+coded_built =
+    code_by ((List ℕ × ℕ) × (List Frame × Option Tree))
+    (coded× (coded× (coded_list coded_ℕ) coded_ℕ) (coded× (coded_list coded_frame) (coded_option coded_tree)))
+    (λ b. ((b.input, b.side_len), (b.frames, b.root))) (λ p. record { input = p.0.0; side_len = p.0.1; frames = p.1.0; root = p.1.1 }) (λ _. refl)
+
+abbrev pub finished : Bool → ℕ → ℕ → Cell
+finished false kids below = Items (record { count = kids; below = below })
+finished true kids below = Map (record { count = kids / 2; below = below })

@@ -1,0 +1,55 @@
+-- The whole number that a text spells (RFC 8259, section 6).
+use Rattle.std.specs.Prelude.{ℕ, ◌+◌, ◌-◌, ◌*◌, ◌^◌, ℤ, pos, neg_ℤ, List, [], ◌∷◌, Bool, true, false, ◌&&◌, ◌==◌, nat_lt, nat_le, if◌then◌else◌, Option, Some, None}
+use Rattle.std.specs.List.{list_all}
+
+-- DIGIT
+unfoldable pub is_digit : ℕ → Bool
+is_digit b = nat_le 48 b && nat_le b 57
+
+-- digit1-9
+unfoldable pub is_leading : ℕ → Bool
+is_leading b = nat_le 49 b && nat_le b 57
+
+abbrev pub is_empty : List ℕ → Bool
+is_empty [] = true
+is_empty (b ∷ bs) = false
+
+-- int: zero, or digits of which the first isn't zero
+abbrev pub is_int : List ℕ → Bool
+is_int [] = false
+is_int (d ∷ ds) = if d == 48 then is_empty ds else is_leading d && list_all is_digit ds
+
+-- a number without fraction and exponent: an int, with a minus before it or not
+abbrev pub is_number : List ℕ → Bool
+is_number [] = false
+is_number (b ∷ bs) = if b == 45 then is_int bs else is_int (b ∷ bs)
+
+-- digits behind a number, in base ten
+abbrev pub value_from : ℕ → List ℕ → ℕ
+value_from n [] = n
+value_from n (d ∷ ds) = value_from (n * 10 + (d - 48)) ds
+
+abbrev pub value_of : List ℕ → ℕ
+value_of ds = value_from 0 ds
+
+-- the integer of digits with a minus before them or not
+abbrev pub int_of : List ℕ → ℤ
+int_of [] = pos 0
+int_of (b ∷ bs) = if b == 45 then neg_ℤ (pos (value_of bs)) else pos (value_of (b ∷ bs))
+
+-- it isn't minus zero, and from -2^127 to 2^128 - 1
+abbrev pub is_whole : List ℕ → Bool
+is_whole [] = false
+is_whole (b ∷ bs) = if b == 45 then nat_lt 0 (value_of bs) && nat_le (value_of bs) (2 ^ 127) else nat_lt (value_of (b ∷ bs)) (2 ^ 128)
+
+-- that integer, where it is one
+abbrev pub whole_of : List ℕ → Option ℤ
+whole_of s = if is_whole s then Some (int_of s) else None
+
+-- that integer of digits behind a minus, where it is one
+abbrev pub negative_of : List ℕ → Option ℤ
+negative_of ds = if nat_lt 0 (value_of ds) && nat_le (value_of ds) (2 ^ 127) then Some (neg_ℤ (pos (value_of ds))) else None
+
+-- the integer that a text spells, where it spells one
+abbrev pub key_number : List ℕ → Option ℤ
+key_number s = if is_number s then whole_of s else None

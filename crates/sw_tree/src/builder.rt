@@ -1,0 +1,288 @@
+ghost use Rattle.std.specs.Prelude.{◌≡◌, ◌<◌, ◌≤◌, ◌+◌, [], ◌∷◌, length, slice_range, None, Some, is_some, true, false, IsOk, OnOk, OnErr};
+ghost use Rattle.std.specs.Str.{IsUtf8};
+ghost use Rattle.sw_tree.specs.Tree as tree;
+ghost use Rattle.sw_tree.specs.Builder.{added, longer, opened, closed, finished, CanClose};
+
+use crate::cell::{Cell, Extent, Span};
+use crate::doc::Doc;
+use crate::whole::Whole;
+use std::alloc::{AllocError, Global};
+use std::marker::Model;
+
+/// A list or map that is open: the place of its cell, and how many children the one
+/// around it has so far.
+#[derive(Clone, Copy)]
+pub(crate) struct Open {
+    pub at: usize,
+    pub kids: usize,
+    pub is_map: bool,
+}
+
+/// Builds a document from its nodes in reading order: a list or map is opened, its
+/// children are added, a map's keys and values by turns, and it is closed.
+///
+/// It means the lists and maps that are open with their finished children, the finished
+/// root, if there is one, and how many bytes stand in the text beside the input. After
+/// want of memory it is unchanged.
+#[derive(Drop)]
+pub struct DocBuilder<'de> {
+    input: &'de [u8],
+    side: Vec<u8>,
+    wides: Vec<Whole>,
+    cells: Vec<Cell>,
+    opens: Vec<Open>,
+    kids: usize,
+}
+
+impl<'de> Model for DocBuilder<'de> {
+    ghost use Rattle.std.specs.Prelude.{reverse};
+    ghost use Rattle.sw_tree.specs.Builder.{Built, coded_built, meant, Stacked};
+
+    ghost Value = { Built };
+
+    ghost coded = { coded_built };
+
+    ghost view = { λ b. meant (record { input = b.input.now; side = b.side.items; wides = b.wides.items }) (reverse b.opens.items) b.cells.items };
+
+    ghost invariant = { λ b. Stacked (record { input = b.input.now; side = b.side.items; wides = b.wides.items }) (reverse b.opens.items) b.cells.items b.kids };
+}
+
+impl<'de> DocBuilder<'de> {
+    ghost use Rattle.std.specs.Prelude.{slice_range};
+    ghost use Rattle.sw_tree.specs.Cells.{Store, IsFine, arity, below, tree_at};
+    ghost use Rattle.sw_tree.specs.Tree.{depth};
+
+    /// Nothing open and no root, over that input. It takes no memory.
+    pub fn new(alloc: Global, input: &'de [u8]) -> DocBuilder<'de>
+        ensures { result ≡ record { input = input.entry.now; side_len = 0; frames = []; root = None } }
+    {
+        DocBuilder {
+            input,
+            side: Vec::new(alloc),
+            wides: Vec::new(alloc),
+            cells: Vec::new(alloc),
+            opens: Vec::new(alloc),
+            kids: 0,
+        }
+    }
+
+    /// Adds the tree of a cell that has nothing below it.
+    fn leaf(&mut self, cell: Cell) -> Result<(), AllocError>
+        requires no_root { self.old.root ≡ None }
+        requires fine { IsFine (record { input = self.old.input; side = []; wides = [] }) cell }
+        requires none { arity cell ≡ 0 }
+        requires low { below cell ≡ 0 }
+        requires shallow { depth (tree_at (record { input = self.old.input; side = []; wides = [] }) cell []) ≤ 1 }
+        requires room { 0 < depth (tree_at (record { input = self.old.input; side = []; wides = [] }) cell []) → length self.old.frames < 128 }
+        ensures ok { OnOk result (self.new ≡ added self.old (tree_at (record { input = self.old.input; side = []; wides = [] }) cell [])) }
+        ensures err { OnErr result (self.new ≡ self.old) }
+    {
+        self.cells.push(cell)?;
+        self.kids += 1;
+        Ok(())
+    }
+
+    /// Adds the null.
+    pub fn null(&mut self) -> Result<(), AllocError>
+        requires no_root { self.old.root ≡ None }
+        ensures ok { OnOk result (self.new ≡ added self.old tree.null) }
+        ensures err { OnErr result (self.new ≡ self.old) }
+    {
+        self.leaf(Cell::Null)
+    }
+
+    /// Adds that truth value.
+    pub fn bool(&mut self, value: bool) -> Result<(), AllocError>
+        requires no_root { self.old.root ≡ None }
+        ensures ok { OnOk result (self.new ≡ added self.old (tree.truth value)) }
+        ensures err { OnErr result (self.new ≡ self.old) }
+    {
+        self.leaf(Cell::Bool(value))
+    }
+
+    /// Adds a number of 64 bits.
+    fn small(&mut self, value: i64) -> Result<(), AllocError>
+        requires no_root { self.old.root ≡ None }
+        ensures ok { OnOk result (self.new ≡ added self.old (tree.int value)) }
+        ensures err { OnErr result (self.new ≡ self.old) }
+    {
+        self.leaf(Cell::Small(value))
+    }
+
+    /// Adds a number, in the list beside the cells.
+    fn wide(&mut self, value: Whole) -> Result<(), AllocError>
+        requires no_root { self.old.root ≡ None }
+        ensures ok { OnOk result (self.new ≡ added self.old (tree.int value)) }
+        ensures err { OnErr result (self.new ≡ self.old) }
+    {
+        let index = self.wides.len();
+        self.wides.push(value)?;
+        if let Err(failed) = self.cells.push(Cell::Wide(index)) {
+            self.wides.truncate(index);
+            return Err(AllocError::from(failed));
+        }
+        self.kids += 1;
+        Ok(())
+    }
+
+    /// Adds that number.
+    pub fn int(&mut self, value: Whole) -> Result<(), AllocError>
+        requires no_root { self.old.root ≡ None }
+        ensures ok { OnOk result (self.new ≡ added self.old (tree.int value)) }
+        ensures err { OnErr result (self.new ≡ self.old) }
+    {
+        match value.to_i64() {
+            Some(small) => self.small(small),
+            None => self.wide(value),
+        }
+    }
+
+    /// Adds the text that is this part of the input.
+    pub fn text(&mut self, start: usize, end: usize) -> Result<(), AllocError>
+        requires no_root { self.old.root ≡ None }
+        requires ordered { start ≤ end }
+        requires inside { end ≤ length self.old.input }
+        requires utf8 { IsUtf8 (slice_range self.old.input start end) }
+        ensures ok { OnOk result (self.new ≡ added self.old (tree.text (slice_range self.old.input start end))) }
+        ensures err { OnErr result (self.new ≡ self.old) }
+    {
+        self.leaf(Cell::Text(Span { start, end }))
+    }
+
+    /// Adds the byte string that is this part of the input.
+    pub fn bytes(&mut self, start: usize, end: usize) -> Result<(), AllocError>
+        requires no_root { self.old.root ≡ None }
+        requires ordered { start ≤ end }
+        requires inside { end ≤ length self.old.input }
+        requires room { length self.old.frames < 128 }
+        ensures ok { OnOk result (self.new ≡ added self.old (tree.bytes (slice_range self.old.input start end))) }
+        ensures err { OnErr result (self.new ≡ self.old) }
+    {
+        self.leaf(Cell::Bytes(Span { start, end }))
+    }
+
+    /// Adds that text, and keeps a copy of it beside the input.
+    pub fn copied(&mut self, text: &str) -> Result<(), AllocError>
+        requires no_root { self.old.root ≡ None }
+        ensures ok { OnOk result (self.new ≡ added (longer self.old (length text.now)) (tree.text text.now)) }
+        ensures err { OnErr result (self.new ≡ self.old) }
+    {
+        let start = self.side.len();
+        self.side.extend_from_slice(text.as_bytes())?;
+        let end = self.side.len();
+        if let Err(failed) = self.cells.push(Cell::Copied(Span { start, end })) {
+            self.side.truncate(start);
+            return Err(AllocError::from(failed));
+        }
+        self.kids += 1;
+        Ok(())
+    }
+
+    /// Adds that byte string, and keeps a copy of it beside the input.
+    pub(crate) fn copied_bytes(&mut self, bytes: &[u8]) -> Result<(), AllocError>
+        requires no_root { self.old.root ≡ None }
+        requires room { length self.old.frames < 128 }
+        ensures ok { OnOk result (self.new ≡ added (longer self.old (length bytes.now)) (tree.bytes bytes.now)) }
+        ensures err { OnErr result (self.new ≡ self.old) }
+    {
+        let before = self.side.len();
+        self.side.extend_from_slice(bytes)?;
+        let span = Span {
+            start: before,
+            end: self.side.len(),
+        };
+        if let Err(failed) = self.cells.push(Cell::CopiedBytes(span)) {
+            self.side.truncate(before);
+            return Err(AllocError::from(failed));
+        }
+        self.kids += 1;
+        Ok(())
+    }
+
+    /// Opens a list or a map.
+    fn begin(&mut self, is_map: bool) -> Result<(), AllocError>
+        requires no_root { self.old.root ≡ None }
+        requires room { length self.old.frames < 128 }
+        ensures ok { OnOk result (self.new ≡ opened self.old is_map) }
+        ensures err { OnErr result (self.new ≡ self.old) }
+    {
+        let at = self.cells.len();
+        self.opens.push(Open {
+            at,
+            kids: self.kids,
+            is_map,
+        })?;
+        if let Err(failed) = self.cells.push(Cell::Null) {
+            self.opens.pop();
+            return Err(AllocError::from(failed));
+        }
+        self.kids = 0;
+        Ok(())
+    }
+
+    /// Opens a list.
+    pub fn open_list(&mut self) -> Result<(), AllocError>
+        requires no_root { self.old.root ≡ None }
+        requires room { length self.old.frames < 128 }
+        ensures ok { OnOk result (self.new ≡ opened self.old false) }
+        ensures err { OnErr result (self.new ≡ self.old) }
+    {
+        self.begin(false)
+    }
+
+    /// Opens a map.
+    pub fn open_map(&mut self) -> Result<(), AllocError>
+        requires no_root { self.old.root ≡ None }
+        requires room { length self.old.frames < 128 }
+        ensures ok { OnOk result (self.new ≡ opened self.old true) }
+        ensures err { OnErr result (self.new ≡ self.old) }
+    {
+        self.begin(true)
+    }
+
+    /// Finishes the innermost list or map, which becomes a child or the root. It takes no
+    /// memory.
+    pub fn close(&mut self) -> Result<(), AllocError>
+        requires { CanClose self.old }
+        ensures always { IsOk result }
+        ensures ok { OnOk result (self.new ≡ closed self.old) }
+    {
+        if let Some(open) = self.opens.pop() {
+            let below = self.cells.len() - open.at - 1;
+            self.cells[open.at] = closed_cell(open.is_map, self.kids, below);
+            self.kids = open.kids + 1;
+        }
+        Ok(())
+    }
+
+    /// The document whose view means the root. It takes no memory.
+    pub fn finish(self) -> Doc<'de>
+        requires root { is_some self.root ≡ true }
+        ensures tree { Some result.tree ≡ self.entry.root }
+        ensures side { result.side_len ≡ self.entry.side_len }
+    {
+        let DocBuilder {
+            input,
+            side,
+            wides,
+            cells,
+            opens: _,
+            kids: _,
+        } = self;
+        Doc::from_cells(input, side, wides, cells)
+    }
+}
+
+/// The cell of a finished list or map of so many children.
+fn closed_cell(is_map: bool, kids: usize, below: usize) -> Cell
+    ensures { result ≡ finished is_map kids below }
+{
+    if is_map {
+        Cell::Map(Extent {
+            count: kids / 2,
+            below,
+        })
+    } else {
+        Cell::List(Extent { count: kids, below })
+    }
+}

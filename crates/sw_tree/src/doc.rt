@@ -1,0 +1,104 @@
+use crate::cell::Cell;
+use crate::from_node::document_of;
+use crate::node::Node;
+use crate::view::View;
+use crate::whole::Whole;
+use std::alloc::{AllocError, Global};
+use std::marker::Model;
+
+/// A read document: the input that it was read from, and its nodes.
+#[derive(Drop)]
+pub struct Doc<'de> {
+    input: &'de [u8],
+    side: Vec<u8>,
+    wides: Vec<Whole>,
+    cells: Vec<Cell>,
+}
+
+impl<'de> Model for Doc<'de> {
+    ghost use Rattle.std.specs.Prelude.{length, ◌<◌};
+    ghost use Rattle.sw_tree.specs.Doc.{Document, coded_document};
+    ghost use Rattle.sw_tree.specs.Cells.{forest, Formed, first};
+
+    ghost Value = { Document };
+
+    ghost coded = { coded_document };
+
+    ghost view = { λ d. record {
+      tree = first (forest (record { input = d.input.now; side = d.side.items; wides = d.wides.items }) d.cells.items);
+      side_len = length d.side.items;
+    } };
+
+    ghost invariant = { λ d. Formed (record { input = d.input.now; side = d.side.items; wides = d.wides.items }) d.cells.items × (0 < length d.cells.items) };
+}
+
+impl<'de> Doc<'de> {
+    ghost use Rattle.std.specs.Prelude.{◌≡◌, ◌<◌, length, true, false, IfOk};
+    ghost use Rattle.sw_tree.specs.Tree.{content_len};
+    ghost use Rattle.sw_tree.specs.View.{seen};
+    ghost use Rattle.sw_tree.specs.Cells.{forest, Formed, first};
+
+    /// The document of these cells, whose first is the root's.
+    pub(crate) fn from_cells(
+        input: &'de [u8],
+        side: Vec<u8>,
+        wides: Vec<Whole>,
+        cells: Vec<Cell>,
+    ) -> Doc<'de>
+        requires formed { Formed (record { input = input.now; side = side.items; wides = wides.items }) cells.items }
+        requires some { 0 < length cells.items }
+        ensures { result ≡ record {
+          tree = first (forest (record { input = input.entry.now; side = side.items; wides = wides.items }) cells.items);
+          side_len = length side.items;
+        } }
+    {
+        Doc {
+            input,
+            side,
+            wides,
+            cells,
+        }
+    }
+
+    /// A document whose view means that tree, with copies of all texts and byte strings in
+    /// the text beside its input, which is empty.
+    pub fn from_node(alloc: Global, node: &Node) -> Result<Doc<'_>, AllocError>
+        ensures { IfOk result (λ d. d ≡ record { tree = node.entry.now; side_len = content_len node.entry.now }) }
+    {
+        document_of(alloc, node)
+    }
+
+    /// The root, whose place is 0, and whose nodes below count on from there.
+    pub fn view(&self) -> View<'_>
+        ensures { seen result ≡ record { tree = self.now.tree; place = 0; counts = true } }
+    {
+        View::root(
+            self.input,
+            self.side.as_slice(),
+            self.wides.as_slice(),
+            self.cells.as_slice(),
+            None,
+        )
+    }
+
+    /// The root of a document that stands inside a node of another: it and all nodes below
+    /// have that place.
+    pub fn view_inside(&self, place: usize) -> View<'_>
+        ensures { seen result ≡ record { tree = self.now.tree; place = place; counts = false } }
+    {
+        View::root(
+            self.input,
+            self.side.as_slice(),
+            self.wides.as_slice(),
+            self.cells.as_slice(),
+            Some(place),
+        )
+    }
+
+    /// How many bytes stand in the text beside the input.
+    pub fn side_len(&self) -> usize
+        ensures { result ≡ self.now.side_len }
+    {
+        self.side.len()
+    }
+}

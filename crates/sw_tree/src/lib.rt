@@ -1,0 +1,46 @@
+//! Trees, the documents that they are read from, and what reading and writing them answers.
+#![tactic(auto)]
+
+pub mod builder;
+mod cell;
+mod containers;
+pub mod doc;
+pub mod fail;
+mod from_node;
+pub mod images;
+pub mod kinds;
+mod leaves;
+pub mod meant;
+pub mod mode;
+pub mod node;
+pub mod number;
+pub mod path;
+pub mod ranked;
+mod signed;
+pub mod skipped;
+mod to_node;
+mod unsigned;
+pub mod view;
+pub mod whole;
+pub mod wire;
+
+pub use builder::DocBuilder;
+pub use doc::Doc;
+pub use fail::{
+    DeError, DeFail, DeKind, PrintError, Refusal, SerError, SerFail, TooDeep, WireError,
+};
+pub use images::image;
+pub use kinds::Kinds;
+pub use meant::{Meant, Named};
+pub use mode::{Kind, Mode, Place, WireKind};
+pub use node::Node;
+pub use number::{key_number, whole_of_spelling, whole_text};
+pub use path::{NodePath, Step, node_at, path_of};
+pub use ranked::{Keyed, Ranked};
+pub use skipped::Skipped;
+pub use view::{Entries, Items, View};
+pub use whole::Whole;
+pub use wire::Wire;
+
+#[cfg(test)]
+mod tests;

@@ -1,0 +1,15 @@
+/// Names the meaning of a value as plain data, and which meanings the type has.
+pub trait Named {
+    ghost use Rattle.sw_tree.specs.Meaning.{Meaning};
+
+    ghost meaning: { Self → Meaning };
+
+    ghost is_meaning: { Meaning → Type 0 };
+}
+
+/// The meaning of a value in hand is one of its type's.
+pub trait Meant: Named + Drop {
+    ghost in_hand: { Self → Type 0 };
+
+    ghost meaning_is: { (x : Self) → in_hand x → Self.is_meaning (Self.meaning x) };
+}

@@ -1,0 +1,324 @@
+#![tactic(auto, using(crate::proofs::Lists::lists))]
+
+ghost use Rattle.std.specs.Prelude.{◌≡◌, ◌<◌, ◌≤◌, IfOk, string_bytes};
+ghost use Rattle.sw_tree.specs.Tree.{null, truth, int, text, bytes, list, map, trees, entries, depth, kind_of, trees_depth, entries_depth};
+
+use crate::fail::TooDeep;
+use crate::mode::Kind;
+use crate::whole::Whole;
+use std::alloc::{AllocError, Global};
+use std::marker::Model;
+
+/// A tree of at most 128 levels.
+///
+/// Null, a truth value, a number and a text have no level, a byte string has one, a list
+/// or map has one more than its deepest child, keys included.
+#[cycle(node)]
+#[derive(Drop)]
+pub struct Node {
+    shape: Shape,
+    levels: u8,
+}
+
+#[cycle(node)]
+#[derive(Drop)]
+pub(crate) enum Shape {
+    Null,
+    Bool(bool),
+    Int(Whole),
+    Text(String),
+    Bytes(Vec<u8>),
+    List(Vec<Node>),
+    Map(Vec<(Node, Node)>),
+}
+
+impl Model for Node {
+    ghost use Rattle.std.specs.Prelude.{◌≡◌, ◌≤◌};
+    ghost use Rattle.sw_tree.specs.Tree.{Tree, depth};
+    ghost use Rattle.sw_tree.specs.TreeCode.{coded_tree};
+
+    ghost Value = { Tree };
+
+    ghost coded = { coded_tree };
+
+    ghost use Rattle.sw_tree.specs.NodeShape.{shape_tree};
+
+    ghost view = { λ a. shape_tree a.shape };
+
+    ghost invariant = { λ a. (a.levels ≡ depth (shape_tree a.shape)) × (a.levels ≤ 128) };
+
+    ghost size = { depth };
+
+    ghost use Rattle.sw_tree.specs.NodeFalls.{deep_le-depth};
+
+    ghost size_decreases = { λ a h. deep_le-depth a.shape };
+}
+
+impl Node {
+    ghost use Rattle.std.specs.Prelude.{option_map, MatchResult};
+    ghost use Rattle.std.specs.Option.{option_copied};
+    ghost use Rattle.sw_tree.specs.Tree.{items_at, pairs_at, text_at, bytes_at, truth_at, int_at};
+
+    /// The null.
+    pub fn null() -> Node
+        ensures { result ≡ null }
+    {
+        Node {
+            shape: Shape::Null,
+            levels: 0,
+        }
+    }
+
+    /// That truth value.
+    pub fn bool(value: bool) -> Node
+        ensures { result ≡ truth value }
+    {
+        Node {
+            shape: Shape::Bool(value),
+            levels: 0,
+        }
+    }
+
+    /// That number.
+    pub fn int(value: Whole) -> Node
+        ensures { result ≡ int value }
+    {
+        Node {
+            shape: Shape::Int(value),
+            levels: 0,
+        }
+    }
+
+    /// That text.
+    pub fn text(value: String) -> Node
+        ensures { result ≡ text (string_bytes value) }
+    {
+        Node {
+            shape: Shape::Text(value),
+            levels: 0,
+        }
+    }
+
+    /// That byte string, which has one level.
+    pub fn bytes(value: Vec<u8>) -> Node
+        ensures { result ≡ bytes value.items }
+    {
+        Node {
+            shape: Shape::Bytes(value),
+            levels: 1,
+        }
+    }
+
+    /// The list of these items. `TooDeep` exactly where an item has 128 levels, so that the
+    /// list would have more; the items are then given up.
+    pub fn list(items: Vec<Node>) -> Result<Node, TooDeep>
+        ensures { MatchResult
+            result
+            (λ n. (n ≡ list (trees items.items)) × (depth n ≤ 128))
+            (λ _. 128 < depth (list (trees items.items))) }
+    {
+        let most = greatest(items.as_slice());
+        if most < 128 {
+            Ok(Node {
+                shape: Shape::List(items),
+                levels: most + 1,
+            })
+        } else {
+            Err(TooDeep)
+        }
+    }
+
+    /// The map of these entries, in order. `TooDeep` exactly where a key or value has 128
+    /// levels, so that the map would have more; the entries are then given up.
+    pub fn map(pairs: Vec<(Node, Node)>) -> Result<Node, TooDeep>
+        ensures { MatchResult
+            result
+            (λ n. (n ≡ map (entries pairs.items)) × (depth n ≤ 128))
+            (λ _. 128 < depth (map (entries pairs.items))) }
+    {
+        let most = greatest_entry(pairs.as_slice());
+        if most < 128 {
+            Ok(Node {
+                shape: Shape::Map(pairs),
+                levels: most + 1,
+            })
+        } else {
+            Err(TooDeep)
+        }
+    }
+
+    /// The list of these items, which have at most 127 levels.
+    pub(crate) fn shallow_list(items: Vec<Node>) -> Node
+        requires { depth (list (trees items.items)) ≤ 128 }
+        ensures { result ≡ list (trees items.items) }
+    {
+        match Node::list(items) {
+            Ok(list) => list,
+            Err(_) => unreachable!(),
+        }
+    }
+
+    /// The map of these entries, in order, which have at most 127 levels.
+    pub(crate) fn shallow_map(pairs: Vec<(Node, Node)>) -> Node
+        requires { depth (map (entries pairs.items)) ≤ 128 }
+        ensures { result ≡ map (entries pairs.items) }
+    {
+        match Node::map(pairs) {
+            Ok(map) => map,
+            Err(_) => unreachable!(),
+        }
+    }
+
+    /// An equal tree.
+    #[cycle(copy)]
+    pub fn copy(&self, alloc: Global) -> Result<Node, AllocError>
+        ensures { IfOk result (λ n. n ≡ self.now) }
+    {
+        match &self.shape {
+            Shape::Null => Ok(Node::null()),
+            Shape::Bool(value) => Ok(Node::bool(*value)),
+            Shape::Int(value) => Ok(Node::int(*value)),
+            Shape::Text(value) => Ok(Node::text(String::from_str(alloc, value.as_str())?)),
+            Shape::Bytes(value) => Ok(Node::bytes(Vec::from_slice(alloc, value.as_slice())?)),
+            Shape::List(items) => Ok(Node {
+                shape: Shape::List(copies(alloc, items.as_slice())?),
+                levels: self.levels,
+            }),
+            Shape::Map(pairs) => Ok(Node {
+                shape: Shape::Map(entry_copies(alloc, pairs.as_slice())?),
+                levels: self.levels,
+            }),
+        }
+    }
+
+    /// How many levels it has, at most 128.
+    pub fn depth(&self) -> u8
+        ensures levels { result ≡ depth self.now }
+        ensures within { result ≤ 128 }
+    {
+        self.levels
+    }
+
+    /// Its kind.
+    pub fn kind(&self) -> Kind
+        ensures { result ≡ kind_of self.now }
+    {
+        match &self.shape {
+            Shape::Null => Kind::Null,
+            Shape::Bool(_) => Kind::Bool,
+            Shape::Int(_) => Kind::Int,
+            Shape::Text(_) => Kind::Text,
+            Shape::Bytes(_) => Kind::Bytes,
+            Shape::List(_) => Kind::List,
+            Shape::Map(_) => Kind::Map,
+        }
+    }
+
+    /// The truth value, where it is one.
+    pub fn as_bool(&self) -> Option<bool>
+        ensures { result ≡ truth_at self.now }
+    {
+        match &self.shape {
+            Shape::Bool(value) => Some(*value),
+            _ => None,
+        }
+    }
+
+    /// The number, where it is one.
+    pub fn as_int(&self) -> Option<Whole>
+        ensures { result ≡ int_at self.now }
+    {
+        match &self.shape {
+            Shape::Int(value) => Some(*value),
+            _ => None,
+        }
+    }
+
+    /// The text, where it is one.
+    pub fn as_text(&self) -> Option<&str>
+        ensures { option_copied result ≡ text_at self.now }
+    {
+        match &self.shape {
+            Shape::Text(value) => Some(value.as_str()),
+            _ => None,
+        }
+    }
+
+    /// The bytes, where it is a byte string.
+    pub fn as_bytes(&self) -> Option<&[u8]>
+        ensures { option_copied result ≡ bytes_at self.now }
+    {
+        match &self.shape {
+            Shape::Bytes(value) => Some(value.as_slice()),
+            _ => None,
+        }
+    }
+
+    /// The items in order, where it is a list.
+    pub fn items(&self) -> Option<&[Node]>
+        ensures { option_map (λ s. s.now) result ≡ items_at self.now }
+    {
+        match &self.shape {
+            Shape::List(items) => Some(items.as_slice()),
+            _ => None,
+        }
+    }
+
+    /// The entries in order, each a key and its value, where it is a map.
+    pub fn entries(&self) -> Option<&[(Node, Node)]>
+        ensures { option_map (λ s. s.now) result ≡ pairs_at self.now }
+    {
+        match &self.shape {
+            Shape::Map(entries) => Some(entries.as_slice()),
+            _ => None,
+        }
+    }
+}
+
+/// The most levels that one of these has.
+fn greatest(items: &[Node]) -> u8
+    ensures levels { result ≡ trees_depth (trees items.now) }
+    ensures within { result ≤ 128 }
+{
+    let mut most = 0;
+    for item in items {
+        most = most.max(item.depth());
+    }
+    most
+}
+
+/// The most levels that a key or value has.
+fn greatest_entry(items: &[(Node, Node)]) -> u8
+    ensures levels { result ≡ entries_depth (entries items.now) }
+    ensures within { result ≤ 128 }
+{
+    let mut most = 0;
+    for (key, value) in items {
+        most = most.max(key.depth()).max(value.depth());
+    }
+    most
+}
+
+/// Equal items.
+#[cycle(copy)]
+fn copies(alloc: Global, items: &[Node]) -> Result<Vec<Node>, AllocError>
+    ensures { IfOk result (λ v. v.items ≡ items.now) }
+{
+    let mut copied = Vec::new(alloc);
+    for item in items {
+        copied.push(item.copy(alloc)?)?;
+    }
+    Ok(copied)
+}
+
+/// Equal entries.
+#[cycle(copy)]
+fn entry_copies(alloc: Global, pairs: &[(Node, Node)]) -> Result<Vec<(Node, Node)>, AllocError>
+    ensures { IfOk result (λ v. v.items ≡ pairs.now) }
+{
+    let mut copied = Vec::new(alloc);
+    for (key, value) in pairs {
+        copied.push((key.copy(alloc)?, value.copy(alloc)?))?;
+    }
+    Ok(copied)
+}

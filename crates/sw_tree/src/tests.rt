@@ -1,0 +1,323 @@
+ghost use Rattle.std.specs.Prelude.{◌≡◌, ◌↔◌, IsTrue};
+
+use crate::{
+    DeError, DeFail, DeKind, Doc, DocBuilder, Keyed, Kind, Mode, Node, Place, PrintError, Refusal,
+    SerError, Skipped, Step, View, Whole, WireKind, image, key_number, node_at, path_of,
+    whole_of_spelling, whole_text,
+};
+use std::alloc::{AllocError, Global};
+use std::cmp::Ordering;
+
+/// `[null, true, 7, 2^100, "A", {"k": "é"}]` and the bytes of `é`, which stand in the input.
+fn document(alloc: Global) -> Result<Doc<'static>, AllocError> {
+    let mut builder = DocBuilder::new(alloc, "é".as_bytes());
+    builder.open_list()?;
+    builder.null()?;
+    builder.bool(true)?;
+    builder.int(Whole::from_u128(7))?;
+    builder.int(Whole::from_u128(1 << 100))?;
+    builder.copied("A")?;
+    builder.open_map()?;
+    builder.copied("k")?;
+    builder.text(0, 2)?;
+    builder.close()?;
+    builder.bytes(0, 2)?;
+    builder.close()?;
+    Ok(builder.finish())
+}
+
+/// What a view shows, in a few words.
+fn shown(alloc: Global, view: View<'_>) -> Result<String, AllocError> {
+    let mut text = String::new(alloc);
+    text.push_str(match view.kind() {
+        Kind::Null => "null",
+        Kind::Bool => "bool",
+        Kind::Int => "int",
+        Kind::Text => "text",
+        Kind::Bytes => "bytes",
+        Kind::List => "list",
+        Kind::Map => "map",
+    })?;
+    if let Some(value) = view.as_bool() {
+        text.push_str(if value { " true" } else { " false" })?;
+    }
+    if let Some(value) = view.as_int() {
+        text.push_str(if value.to_u128() == Some(1 << 100) {
+            " wide"
+        } else {
+            " small"
+        })?;
+    }
+    if let Some(value) = view.as_text() {
+        text.push_str(" ")?;
+        text.push_str(value)?;
+    }
+    if let Some(value) = view.as_bytes() {
+        text.push_str(if value.len() == view.len() {
+            " whole"
+        } else {
+            " cut"
+        })?;
+    }
+    Ok(text)
+}
+
+fn shows(alloc: Global, doc: &Doc<'_>) -> Result<bool, AllocError> {
+    let wanted = [
+        "null",
+        "bool true",
+        "int small",
+        "int wide",
+        "text A",
+        "map",
+    ];
+    let mut right = doc.view().kind() == Kind::List && doc.view().len() == 7;
+    let Some(items) = doc.view().items() else {
+        return Ok(false);
+    };
+    for (item, wanted) in items.zip(wanted) {
+        right = right && shown(alloc, item)?.as_str() == wanted;
+    }
+    Ok(right && doc.side_len() == 2)
+}
+
+#[test]
+fn a_document_shows_what_was_built(rt: HostRuntime) {
+    let doc = document(rt.alloc());
+    assert!(rt; matches!(&doc, Ok(doc) if matches!(shows(rt.alloc(), doc), Ok(true))));
+}
+
+/// The printed path to the node that has the place, and the place of the node it leads to.
+fn path_text(
+    alloc: Global,
+    doc: &Doc<'_>,
+    place: usize,
+) -> Result<Option<(String, usize)>, AllocError> {
+    let Some(path) = path_of(alloc, doc.view(), place)? else {
+        return Ok(None);
+    };
+    let text = path.print(alloc)?;
+    Ok(match node_at(doc.view(), &path) {
+        Some(node) => Some((text, node.place())),
+        None => None,
+    })
+}
+
+#[test]
+fn a_path_leads_to_its_place(rt: HostRuntime) {
+    let doc = document(rt.alloc());
+    let Ok(doc) = doc else {
+        assert!(rt; false);
+        return;
+    };
+    for (place, wanted) in [
+        (0, "/"),
+        (1, "/0"),
+        (5, "/4"),
+        (6, "/5"),
+        (7, "/5/0k"),
+        (8, "/5/0"),
+    ] {
+        let found = path_text(rt.alloc(), &doc, place);
+        assert!(rt;
+            matches!(&found, Ok(Some((text, at))) if text.as_str() == wanted && *at == place),
+            "at {place}"
+        );
+    }
+    assert!(rt; matches!(path_of(rt.alloc(), doc.view(), 10), Ok(None)));
+    assert!(rt; matches!(path_of(rt.alloc(), doc.view_inside(3), 3), Ok(None)));
+    let inside = doc.view_inside(3);
+    assert!(rt; inside.place() == 3 && !inside.counts() && doc.view().counts());
+    let last = match inside.items() {
+        Some(items) => items.skip(5).next(),
+        None => None,
+    };
+    assert!(rt; matches!(last, Some(map) if map.place() == 3 && matches!(map.entries(), Some(_))));
+}
+
+/// Lists in lists, so many levels deep.
+fn nested(alloc: Global, levels: u8) -> Result<Node, AllocError> {
+    let mut node = Node::bytes(Vec::from_slice(alloc, b"ab")?);
+    for _ in 1..levels {
+        let mut items = Vec::new(alloc);
+        items.push(node)?;
+        node = match Node::list(items) {
+            Ok(list) => list,
+            Err(_) => Node::null(),
+        };
+    }
+    Ok(node)
+}
+
+/// Whether a list and a map of that node are too deep.
+fn too_deep(alloc: Global, levels: u8) -> Result<(bool, bool), AllocError> {
+    let mut items = Vec::new(alloc);
+    items.push(nested(alloc, levels)?)?;
+    let mut pairs = Vec::new(alloc);
+    pairs.push((nested(alloc, levels)?, Node::bool(true)))?;
+    Ok((Node::list(items).is_err(), Node::map(pairs).is_err()))
+}
+
+#[test]
+fn a_node_has_at_most_128_levels(rt: HostRuntime) {
+    let node = nested(rt.alloc(), 128);
+    assert!(rt; matches!(&node, Ok(node) if node.depth() == 128 && node.kind() == Kind::List));
+    assert!(rt; matches!(too_deep(rt.alloc(), 127), Ok((false, false))));
+    assert!(rt; matches!(too_deep(rt.alloc(), 128), Ok((true, true))));
+    let bytes = nested(rt.alloc(), 1);
+    assert!(rt; matches!(&bytes, Ok(node) if matches!(node.as_bytes(), Some(b"ab"))));
+    assert!(rt; Node::null().kind() == Kind::Null && Node::null().depth() == 0);
+    assert!(rt; Node::bool(true).as_bool() == Some(true));
+    assert!(rt;
+        matches!(Node::int(Whole::from_i128(-5)).as_int(), Some(five) if five == Whole::from_i128(-5))
+    );
+    assert!(rt; matches!(Node::text(String::new(rt.alloc())).as_text(), Some("")));
+}
+
+#[test]
+fn whole_numbers_go_from_one_end_to_the_other(rt: HostRuntime) {
+    let least = Whole::from_i128(i128::MIN);
+    let greatest = Whole::from_u128(u128::MAX);
+    assert!(rt; least.to_i128() == Some(i128::MIN) && least.to_u128() == None);
+    assert!(rt; greatest.to_u128() == Some(u128::MAX) && greatest.to_i128() == None);
+    assert!(rt; Whole::from_i128(i128::MAX).to_i128() == Some(i128::MAX));
+    assert!(rt; least < Whole::from_i128(-1) && Whole::from_i128(-1) < Whole::from_u128(0));
+    assert!(rt; Whole::from_u128(0) < greatest && Whole::from_i128(3) == Whole::from_u128(3));
+}
+
+#[test]
+fn refusals_have_names_and_are_logged_in_order(rt: HostRuntime) {
+    let first = Refusal {
+        error: DeError::InvalidType(Kind::Int),
+        place: 3,
+    };
+    let second = Refusal {
+        error: DeError::NoVariant([Some(DeKind::Text), None, None, None]),
+        place: 4,
+    };
+    let mut log = Skipped::new(rt.alloc());
+    assert!(rt; log.push(first).is_ok() && log.push(second).is_ok());
+    assert!(rt; matches!(log.notes(), [a, b] if *a == first && *b == second));
+    assert!(rt; second.error.kind() == DeKind::NoVariant && DeKind::Convert as u8 == 12);
+    assert!(rt; SerError::Key as u8 == 4);
+    let mode = Mode::plain(WireKind::Json).key().buffer();
+    assert!(rt; mode.place == Place::Key && mode.buffered && mode.value().place == Place::Value);
+    assert!(rt; Step::Key(1) != Step::Value(1) && DeFail::Memory != DeFail::Refused(first));
+}
+
+#[test]
+fn a_key_spells_a_number(rt: HostRuntime) {
+    for (text, wanted) in [
+        ("5", Some(Whole::from_u128(5))),
+        ("-5", Some(Whole::from_i128(-5))),
+        ("0", Some(Whole::from_u128(0))),
+        ("007", None),
+        ("-0", None),
+        ("1.0", None),
+        ("1e2", None),
+        ("+5", None),
+        ("", None),
+        (
+            "-170141183460469231731687303715884105728",
+            Some(Whole::from_i128(i128::MIN)),
+        ),
+        ("-170141183460469231731687303715884105729", None),
+        (
+            "340282366920938463463374607431768211455",
+            Some(Whole::from_u128(u128::MAX)),
+        ),
+        ("340282366920938463463374607431768211456", None),
+    ] {
+        assert!(rt; key_number(text) == wanted, "{text}");
+    }
+    assert!(rt; whole_of_spelling(b"-12") == Some(Whole::from_i128(-12)));
+    let text = whole_text(rt.alloc(), Whole::from_i128(-7));
+    assert!(rt; matches!(&text, Ok(text) if text.as_str() == "-7"));
+}
+
+/// `[1, "a", -1, null]`.
+fn small_list(alloc: Global) -> Result<Node, AllocError> {
+    let mut items = Vec::new(alloc);
+    items.push(Node::int(Whole::from_u128(1)))?;
+    items.push(Node::text(String::from_str(alloc, "a")?))?;
+    items.push(Node::int(Whole::from_i128(-1)))?;
+    items.push(Node::null())?;
+    Ok(match Node::list(items) {
+        Ok(list) => list,
+        Err(_) => Node::null(),
+    })
+}
+
+fn is_small_list(node: &Node) -> bool {
+    match node.items() {
+        Some([one, letter, minus_one, null]) => {
+            one.as_int() == Some(Whole::from_u128(1))
+                && letter.as_text() == Some("a")
+                && minus_one.as_int() == Some(Whole::from_i128(-1))
+                && null.kind() == Kind::Null
+        }
+        _ => false,
+    }
+}
+
+/// Whether the list stays the same as a copy, and through a document.
+fn stays(alloc: Global) -> Result<bool, AllocError> {
+    let list = small_list(alloc)?;
+    let doc = Doc::from_node(alloc, &list)?;
+    let side = doc.side_len();
+    Ok(is_small_list(&list.copy(alloc)?) && is_small_list(&doc.view().to_node(alloc)?) && side == 1)
+}
+
+#[test]
+fn copies_are_equal(rt: HostRuntime) {
+    assert!(rt; matches!(stays(rt.alloc()), Ok(true)));
+}
+
+/// The key text of the image on JSON of a map with that one key.
+fn key_text(alloc: Global, key: Node) -> Result<Option<String>, PrintError> {
+    let mut pairs = Vec::new(alloc);
+    pairs.push((key, Node::null()))?;
+    let Ok(map) = Node::map(pairs) else {
+        return Ok(None);
+    };
+    let image = image(alloc, &map, WireKind::Json)?;
+    match image.entries() {
+        Some([(key, _)]) => match key.as_text() {
+            Some(text) => Ok(Some(String::from_str(alloc, text)?)),
+            None => Ok(None),
+        },
+        _ => Ok(None),
+    }
+}
+
+#[test]
+fn an_image_has_texts_for_keys(rt: HostRuntime) {
+    let text = key_text(rt.alloc(), Node::int(Whole::from_u128(5)));
+    assert!(rt; matches!(&text, Ok(Some(text)) if text.as_str() == "5"));
+    assert!(rt; matches!(key_text(rt.alloc(), Node::null()), Err(PrintError::Key)));
+}
+
+/// The order of two keys, which is that of their meanings.
+fn order_of<K: Keyed>(first: &K, second: &K) -> Ordering
+    ensures { result ≡ K.order (K.meaning first.now) (K.meaning second.now) }
+{
+    first.cmp(second)
+}
+
+/// Whether two keys are equal, which they are where their meanings are the same.
+fn is_same<K: Keyed>(first: &K, second: &K) -> bool
+    requires left { K.in_hand first.now }
+    requires right { K.in_hand second.now }
+    ensures { IsTrue result ↔ (K.meaning first.now ≡ K.meaning second.now) }
+{
+    first == second
+}
+
+#[test]
+fn values_have_the_order_of_their_meanings(rt: HostRuntime) {
+    assert!(rt; order_of(&'é', &'z') == Ordering::Greater);
+    assert!(rt; order_of(&(-1i8, true), &(-1, false)) == Ordering::Greater);
+    assert!(rt; order_of(&[Some(2u128), None], &[Some(2), Some(1)]) == Ordering::Less);
+    assert!(rt; order_of(&(), &()) == Ordering::Equal);
+    assert!(rt; is_same(&true, &true) && !is_same(&7u8, &8));
+}

@@ -1,0 +1,367 @@
+ghost use Rattle.std.specs.Prelude.{◌<◌, ◌≤◌, ◌≡◌, length, IfOk};
+ghost use Rattle.sw_tree.specs.Cells.{Store, Formed, IsPart, IsText, part};
+ghost use Rattle.sw_tree.specs.Formed.{Formed-prop};
+
+use crate::cell::{Cell, Span};
+use crate::mode::Kind;
+use crate::node::Node;
+use crate::to_node::node_of;
+use crate::whole::Whole;
+use std::alloc::{AllocError, Global};
+use std::marker::Model;
+
+/// A node of a document, to be read.
+///
+/// Contracts read what it shows by `seen`: the node's tree, its place, and whether the
+/// places of the nodes below count on from it.
+#[derive(Clone, Copy)]
+pub struct View<'a> {
+    input: &'a [u8],
+    side: &'a [u8],
+    wides: &'a [Whole],
+    cells: &'a [Cell],
+    at: usize,
+    fixed: Option<usize>,
+    ghost inside: { at < length cells.now },
+    ghost formed: { Formed (record { input = input.now; side = side.now; wides = wides.now }) cells.now } by { Formed-prop (record { input = input.now; side = side.now; wides = wides.now }) cells.now },
+}
+
+impl<'a> View<'a> {
+    ghost use Rattle.std.specs.Prelude.{◌+◌, ◌∷◌, drop, true, false, option_map};
+    ghost use Rattle.std.specs.Option.{option_copied};
+    ghost use Rattle.sw_tree.specs.Tree.{depth, size, kind_of, items_at, len_of, text_at, bytes_at, truth_at, int_at, pairs_at};
+    ghost use Rattle.sw_tree.specs.Cells.{IsFine, arity, tree_at, forest, first};
+    ghost use Rattle.sw_tree.specs.Seen.{items_seen, entries_seen};
+    ghost use Rattle.sw_tree.specs.View.{seen, tree_of, place_in, is_counting, store_of};
+
+    #[tactic(auto, unfolding(crate::specs::View::seen))]
+    pub(crate) fn root(
+        input: &'a [u8],
+        side: &'a [u8],
+        wides: &'a [Whole],
+        cells: &'a [Cell],
+        fixed: Option<usize>,
+    ) -> View<'a>
+        requires formed { Formed (record { input = input.now; side = side.now; wides = wides.now }) cells.now }
+        requires inside { 0 < length cells.now }
+        ensures { seen result
+            ≡ record {
+              tree = first (forest (record { input = input.entry.now; side = side.entry.now; wides = wides.entry.now }) cells.entry.now);
+              place = place_in fixed 0;
+              counts = is_counting fixed;
+            } }
+    {
+        View {
+            input,
+            side,
+            wides,
+            cells,
+            at: 0,
+            fixed,
+        }
+    }
+
+    /// The node's place: its number in the document, from 0 in preorder, a key before its
+    /// value; or the place at which the document is fixed.
+    #[tactic(auto, unfolding(crate::specs::View::seen))]
+    pub fn place(&self) -> usize
+        ensures { result ≡ (seen self.now).place }
+    {
+        match self.fixed {
+            Some(place) => place,
+            None => self.at,
+        }
+    }
+
+    /// Whether the places of the nodes below count on from this one's; where the document
+    /// is fixed at a place, they don't.
+    #[tactic(auto, unfolding(crate::specs::View::seen))]
+    pub fn counts(&self) -> bool
+        ensures { result ≡ (seen self.now).counts }
+    {
+        self.fixed.is_none()
+    }
+
+    /// The items in order, each at its place, where the node is a list.
+    #[tactic(auto, using(crate::proofs::Lists::lists))]
+    pub fn items(self) -> Option<Items<'a>>
+        ensures { result ≡ items_seen (seen self.entry) }
+    {
+        match self.cell() {
+            Cell::List(extent) => Some(Items {
+                input: self.input,
+                side: self.side,
+                wides: self.wides,
+                cells: self.cells,
+                at: self.at + 1,
+                left: extent.count,
+                fixed: self.fixed,
+            }),
+            _ => None,
+        }
+    }
+
+    /// The entries in order, each a key and its value at their places, where the node is a map.
+    #[tactic(auto, using(crate::proofs::Lists::lists))]
+    pub fn entries(self) -> Option<Entries<'a>>
+        ensures { result ≡ entries_seen (seen self.entry) }
+    {
+        match self.cell() {
+            Cell::Map(extent) => Some(Entries {
+                input: self.input,
+                side: self.side,
+                wides: self.wides,
+                cells: self.cells,
+                at: self.at + 1,
+                left: extent.count,
+                fixed: self.fixed,
+            }),
+            _ => None,
+        }
+    }
+
+    /// The number of the cell behind the node and all below it.
+    pub(crate) fn behind(self) -> usize
+        ensures next { forest (store_of self.entry) (drop self.entry.at self.entry.cells.now) ≡ tree_of self.entry ∷ forest (store_of self.entry) (drop result self.entry.cells.now) }
+        ensures place { result ≡ self.entry.at + size (tree_of self.entry) }
+    {
+        let cell = self.cells[self.at];
+        self.at + 1 + cell.below()
+    }
+
+    /// The place behind a counting node and all below it.
+    #[tactic(auto, unfolding(crate::specs::View::seen))]
+    pub(crate) fn end(self) -> usize
+        requires { (seen self).counts ≡ true }
+        ensures { result ≡ (seen self.entry).place + size (tree_of self.entry) }
+    {
+        self.behind()
+    }
+
+    /// The node's cell, and what is known of it.
+    fn cell(self) -> Cell
+        ensures shallow { depth (tree_of self.entry) ≤ 128 }
+        ensures enough { arity result ≤ length (forest (store_of self.entry) (drop (self.entry.at + 1) self.entry.cells.now)) }
+        ensures fine { IsFine (store_of self.entry) result }
+        ensures tree { tree_of self.entry ≡ tree_at (store_of self.entry) result (forest (store_of self.entry) (drop (self.entry.at + 1) self.entry.cells.now)) }
+        ensures place { (seen self.entry).place ≡ place_in self.entry.fixed self.entry.at }
+        ensures counts { (seen self.entry).counts ≡ is_counting self.entry.fixed }
+    {
+        let cell = self.cells[self.at];
+        cell
+    }
+
+    /// The node's kind.
+    pub fn kind(self) -> Kind
+        ensures value { result ≡ kind_of (tree_of self.entry) }
+        ensures shallow { depth (tree_of self.entry) ≤ 128 }
+    {
+        match self.cell() {
+            Cell::Null => Kind::Null,
+            Cell::Bool(_) => Kind::Bool,
+            Cell::Small(_) => Kind::Int,
+            Cell::Wide(_) => Kind::Int,
+            Cell::Text(_) => Kind::Text,
+            Cell::Copied(_) => Kind::Text,
+            Cell::Bytes(_) => Kind::Bytes,
+            Cell::CopiedBytes(_) => Kind::Bytes,
+            Cell::List(_) => Kind::List,
+            Cell::Map(_) => Kind::Map,
+        }
+    }
+
+    /// The truth value, where the node is one.
+    pub fn as_bool(self) -> Option<bool>
+        ensures { result ≡ truth_at (tree_of self.entry) }
+    {
+        match self.cell() {
+            Cell::Bool(value) => Some(value),
+            _ => None,
+        }
+    }
+
+    /// The number, where the node is one.
+    pub fn as_int(self) -> Option<Whole>
+        ensures { result ≡ int_at (tree_of self.entry) }
+    {
+        match self.cell() {
+            Cell::Small(value) => Some(Whole::from_i64(value)),
+            Cell::Wide(index) => Some(self.wides[index]),
+            _ => None,
+        }
+    }
+
+    /// The text, where the node is one. It stands in the document and isn't copied.
+    pub fn as_text(self) -> Option<&'a str>
+        ensures { option_copied result ≡ text_at (tree_of self.entry) }
+    {
+        match self.cell() {
+            Cell::Text(span) => Some(text_in(self.input, span)),
+            Cell::Copied(span) => Some(text_in(self.side, span)),
+            _ => None,
+        }
+    }
+
+    /// The bytes, where the node is a byte string. They stand in the document and aren't copied.
+    pub fn as_bytes(self) -> Option<&'a [u8]>
+        ensures { option_copied result ≡ bytes_at (tree_of self.entry) }
+    {
+        match self.cell() {
+            Cell::Bytes(span) => Some(&self.input[span.start..span.end]),
+            Cell::CopiedBytes(span) => Some(&self.side[span.start..span.end]),
+            _ => None,
+        }
+    }
+
+    /// How many items a list has, entries a map, bytes a byte string; 0 for every other kind.
+    #[tactic(auto, using(crate::proofs::Lists::lists))]
+    pub fn len(self) -> usize
+        ensures { result ≡ len_of (tree_of self.entry) }
+    {
+        match self.cell() {
+            Cell::Bytes(span) => span.end - span.start,
+            Cell::CopiedBytes(span) => span.end - span.start,
+            Cell::List(extent) => extent.count,
+            Cell::Map(extent) => extent.count,
+            _ => 0,
+        }
+    }
+
+    /// An equal tree, which owns copies of the texts and byte strings.
+    pub fn to_node(self, alloc: Global) -> Result<Node, AllocError>
+        ensures { IfOk result (λ n. n ≡ tree_of self.entry) }
+    {
+        node_of(alloc, self)
+    }
+}
+
+/// The text of a span.
+fn text_in<'a>(source: &'a [u8], span: Span) -> &'a str
+    requires { IsText source.now span }
+    ensures { result.now ≡ part source.now span }
+{
+    unsafe { std::str::from_utf8_unchecked(&source[span.start..span.end]) }
+}
+
+/// The items of a list that are left, in order.
+#[derive(Drop)]
+pub struct Items<'a> {
+    input: &'a [u8],
+    side: &'a [u8],
+    wides: &'a [Whole],
+    cells: &'a [Cell],
+    at: usize,
+    left: usize,
+    fixed: Option<usize>,
+}
+
+impl<'a> Model for Items<'a> {
+    ghost use Rattle.std.specs.Prelude.{List, ◌≤◌, length, take, drop};
+    ghost use Rattle.std.specs.Coded.{coded_list};
+    ghost use Rattle.sw_tree.specs.Seen.{Seen, coded_seen, row};
+    ghost use Rattle.sw_tree.specs.View.{place_in, is_counting};
+
+    ghost Value = { List Seen };
+
+    ghost coded = { coded_list coded_seen };
+
+    ghost use Rattle.sw_tree.specs.Cells.{forest, Formed};
+
+    ghost view = { λ a. row (is_counting a.fixed) (place_in a.fixed a.at) (take a.left (forest (record { input = a.input.now; side = a.side.now; wides = a.wides.now }) (drop a.at a.cells.now))) };
+
+    ghost invariant = { λ a. Formed (record { input = a.input.now; side = a.side.now; wides = a.wides.now }) a.cells.now × (a.left ≤ length (forest (record { input = a.input.now; side = a.side.now; wides = a.wides.now }) (drop a.at a.cells.now))) };
+}
+
+impl<'a> Iterator for Items<'a> {
+    ghost use Rattle.std.specs.Iterator.{YieldsFirstBy, item_count};
+    ghost use Rattle.sw_tree.specs.View.{seen};
+
+    type Item = View<'a>;
+
+    ghost next_gives = { YieldsFirstBy seen (λ s. s) };
+
+    ghost remaining = { item_count (λ s. s) };
+
+    fn next(&mut self) -> Option<View<'a>> {
+        if self.left == 0 {
+            return None;
+        }
+        let view = View {
+            input: self.input,
+            side: self.side,
+            wides: self.wides,
+            cells: self.cells,
+            at: self.at,
+            fixed: self.fixed,
+        };
+        self.at = view.behind();
+        self.left -= 1;
+        Some(view)
+    }
+}
+
+/// The entries of a map that are left, in order, each a key and its value.
+#[derive(Drop)]
+pub struct Entries<'a> {
+    input: &'a [u8],
+    side: &'a [u8],
+    wides: &'a [Whole],
+    cells: &'a [Cell],
+    at: usize,
+    left: usize,
+    fixed: Option<usize>,
+}
+
+impl<'a> Model for Entries<'a> {
+    ghost use Rattle.std.specs.Prelude.{List, ◌+◌, ◌≤◌, length, take, drop};
+    ghost use Rattle.std.specs.Coded.{coded_list, coded×};
+    ghost use Rattle.sw_tree.specs.Tree.{turns};
+    ghost use Rattle.sw_tree.specs.Seen.{Seen, coded_seen, entry_row};
+    ghost use Rattle.sw_tree.specs.View.{place_in, is_counting};
+
+    ghost Value = { List (Seen × Seen) };
+
+    ghost coded = { coded_list (coded× coded_seen coded_seen) };
+
+    ghost use Rattle.sw_tree.specs.Cells.{forest, Formed};
+
+    ghost view = { λ a. entry_row (is_counting a.fixed) (place_in a.fixed a.at) (turns (take (a.left + a.left) (forest (record { input = a.input.now; side = a.side.now; wides = a.wides.now }) (drop a.at a.cells.now)))) };
+
+    ghost invariant = { λ a. Formed (record { input = a.input.now; side = a.side.now; wides = a.wides.now }) a.cells.now × (a.left + a.left ≤ length (forest (record { input = a.input.now; side = a.side.now; wides = a.wides.now }) (drop a.at a.cells.now))) };
+}
+
+impl<'a> Iterator for Entries<'a> {
+    ghost use Rattle.std.specs.Iterator.{YieldsFirstBy, item_count};
+    ghost use Rattle.sw_tree.specs.View.{seen};
+
+    type Item = (View<'a>, View<'a>);
+
+    ghost next_gives = { YieldsFirstBy (λ e. (seen e.0, seen e.1)) (λ s. s) };
+
+    ghost remaining = { item_count (λ s. s) };
+
+    fn next(&mut self) -> Option<(View<'a>, View<'a>)> {
+        if self.left == 0 {
+            return None;
+        }
+        let key = View {
+            input: self.input,
+            side: self.side,
+            wides: self.wides,
+            cells: self.cells,
+            at: self.at,
+            fixed: self.fixed,
+        };
+        let value = View {
+            input: self.input,
+            side: self.side,
+            wides: self.wides,
+            cells: self.cells,
+            at: key.behind(),
+            fixed: self.fixed,
+        };
+        self.at = value.behind();
+        self.left -= 1;
+        Some((key, value))
+    }
+}
