@@ -1,0 +1,15 @@
+use Rattle.std.proofs.Common.{[], Some, ap, sym, ◌∙◌}
+use Rattle.std.specs.Prelude.{codes}
+use Rattle.sw_tree.specs.Tree.{text}
+use Rattle.sw_json.specs.Text.{escaped, json_text}
+use Rattle.sw_json.proofs.Pushing.{onto, onto-three, pushed-moved}
+use Rattle.sw_json.proofs.Texts.{quoted_text}
+use Rattle.sw_json.proofs.print.push_text.Goals as goal
+
+pub returns : goal.returns
+returns c =
+    let s = c.args.content.now in
+    pushed-moved c.append-2.result c.args.out.now.items c.push_escaped.new.out.items c.append-2.new.out.items (json_text (text s)) (Some (codes "\""))
+    (onto-three c.args.out.now.items c.append.new.out.items c.push_escaped.new.out.items (Some (codes "\"")) (Some (escaped s [])) (Some (codes "\"")) (json_text (text s)) (quoted_text s) c.in_ok-append.ensures
+    (ap (λ b. onto c.append.new.out.items (Some (escaped b []))) (sym c.as_bytes.ensures.value) ∙ c.in_ok-push_escaped.ensures))
+    c.append-2.ensures

@@ -1,0 +1,77 @@
+//! Classes of bytes, and runs of them.
+
+ghost use Rattle.std.specs.Prelude.{◌≡◌};
+ghost use Rattle.sw_json.specs.Bytes as tests;
+ghost use Rattle.sw_json.specs.Bytes.{front, behind};
+ghost use Rattle.sw_json.specs.Class.{test_of};
+
+/// A class of bytes that come in runs.
+#[derive(Clone, Copy)]
+pub enum Class {
+    /// White space.
+    Blank,
+    /// Digits.
+    Digit,
+    /// What numbers are made of.
+    NumberByte,
+    /// What stands for itself in a text.
+    Plain,
+}
+
+#[inline(always)]
+#[tactic(auto, unfolding(crate::specs::Bytes::is_blank))]
+fn is_blank(byte: u8) -> bool
+    ensures { result ≡ tests.is_blank byte }
+{
+    byte == b' ' || byte == b'\t' || byte == b'\n' || byte == b'\r'
+}
+
+#[inline(always)]
+#[tactic(auto, unfolding(crate::specs::Bytes::is_digit))]
+fn is_digit(byte: u8) -> bool
+    ensures { result ≡ tests.is_digit byte }
+{
+    b'0' <= byte && byte <= b'9'
+}
+
+#[inline(always)]
+#[tactic(auto, unfolding(crate::specs::Bytes::is_number_byte))]
+fn is_number_byte(byte: u8) -> bool
+    ensures { result ≡ tests.is_number_byte byte }
+{
+    is_digit(byte) || byte == b'+' || byte == b'-' || byte == b'.' || byte == b'E' || byte == b'e'
+}
+
+#[inline(always)]
+#[tactic(auto, unfolding(crate::specs::Bytes::is_plain))]
+fn is_plain(byte: u8) -> bool
+    ensures { result ≡ tests.is_plain byte }
+{
+    b' ' <= byte && !(byte == b'"' || byte == b'\\')
+}
+
+#[inline(always)]
+fn passes(class: Class, byte: u8) -> bool
+    ensures { result ≡ test_of class byte }
+{
+    match class {
+        Class::Blank => is_blank(byte),
+        Class::Digit => is_digit(byte),
+        Class::NumberByte => is_number_byte(byte),
+        Class::Plain => is_plain(byte),
+    }
+}
+
+/// The longest front of bytes of that class, and what is behind it.
+#[inline(always)]
+pub(crate) fn split_class(bytes: &[u8], class: Class) -> (&[u8], &[u8])
+    ensures front { result.0.now ≡ front (test_of class) bytes.now }
+    ensures behind { result.1.now ≡ behind (test_of class) bytes.now }
+{
+    for (i, byte) in bytes.iter().enumerate() {
+        if !passes(class, *byte) {
+            return bytes.split_at(i);
+        }
+    }
+    bytes.split_at(bytes.len())
+}

@@ -1,0 +1,124 @@
+//! What may come next.
+
+ghost use Rattle.std.specs.Prelude.{◌≡◌, ℕ, List, IfOk, reverse};
+ghost use Rattle.sw_json.specs.Lexeme.{token_of};
+ghost use Rattle.sw_json.specs.Place.{place_step, place_value, place_end, Leads};
+
+use crate::lexer::Lexeme;
+use std::alloc::AllocError;
+
+/// What is open.
+#[derive(Clone, Copy)]
+pub enum Open {
+    List,
+    Map,
+}
+
+/// Where the reader stands between two tokens.
+#[derive(Clone, Copy)]
+pub enum Place {
+    /// A value comes.
+    Value,
+    /// Behind an opening bracket: a value or the closing bracket comes.
+    FreshList,
+    /// Behind an opening brace: a name or the closing brace comes.
+    FreshMap,
+    /// Behind a comma in a map: a name comes.
+    Name,
+    /// Behind a name: the colon comes.
+    Colon,
+    /// Behind a value: a comma or what closes comes, or the end.
+    After,
+}
+
+/// Where a token leads to; `None` where it can't come. What is then open stands in the
+/// stack, the innermost last.
+pub(crate) fn step(
+    levels: &mut Vec<Open>,
+    place: Place,
+    lexeme: &Lexeme<'_>,
+) -> Result<Option<Place>, AllocError>
+    ensures { (buffer : List ℕ) (at : ℕ) → IfOk result (Leads (place_step place (reverse levels.old.items) (token_of buffer at lexeme.now)) (reverse levels.new.items)) }
+{
+    match place {
+        Place::Value => value_step(levels, lexeme),
+        Place::FreshList => match lexeme {
+            Lexeme::CloseList => {
+                let _ = levels.pop();
+                Ok(Some(Place::After))
+            }
+            _ => value_step(levels, lexeme),
+        },
+        Place::FreshMap => match lexeme {
+            Lexeme::CloseMap => {
+                let _ = levels.pop();
+                Ok(Some(Place::After))
+            }
+            Lexeme::Text(_) => Ok(Some(Place::Colon)),
+            _ => Ok(None),
+        },
+        Place::Name => match lexeme {
+            Lexeme::Text(_) => Ok(Some(Place::Colon)),
+            _ => Ok(None),
+        },
+        Place::Colon => match lexeme {
+            Lexeme::Colon => Ok(Some(Place::Value)),
+            _ => Ok(None),
+        },
+        Place::After => Ok(after_step(levels, lexeme)),
+    }
+}
+
+fn value_step(levels: &mut Vec<Open>, lexeme: &Lexeme<'_>) -> Result<Option<Place>, AllocError>
+    ensures { (buffer : List ℕ) (at : ℕ) → IfOk result (Leads (place_value (reverse levels.old.items) (token_of buffer at lexeme.now)) (reverse levels.new.items)) }
+{
+    match lexeme {
+        Lexeme::Null => Ok(Some(Place::After)),
+        Lexeme::Truth(_) => Ok(Some(Place::After)),
+        Lexeme::Number(_) => Ok(Some(Place::After)),
+        Lexeme::Text(_) => Ok(Some(Place::After)),
+        Lexeme::OpenList => {
+            levels.push(Open::List)?;
+            Ok(Some(Place::FreshList))
+        }
+        Lexeme::OpenMap => {
+            levels.push(Open::Map)?;
+            Ok(Some(Place::FreshMap))
+        }
+        _ => Ok(None),
+    }
+}
+
+fn after_step(levels: &mut Vec<Open>, lexeme: &Lexeme<'_>) -> Option<Place>
+    ensures { (buffer : List ℕ) (at : ℕ) → Leads (place_step Place.After (reverse levels.old.items) (token_of buffer at lexeme.now)) (reverse levels.new.items) result }
+{
+    let innermost = *levels.last()?;
+    match innermost {
+        Open::List => match lexeme {
+            Lexeme::CloseList => {
+                let _ = levels.pop();
+                Some(Place::After)
+            }
+            Lexeme::Comma => Some(Place::Value),
+            _ => None,
+        },
+        Open::Map => match lexeme {
+            Lexeme::CloseMap => {
+                let _ = levels.pop();
+                Some(Place::After)
+            }
+            Lexeme::Comma => Some(Place::Name),
+            _ => None,
+        },
+    }
+}
+
+/// Whether the text may end there.
+pub(crate) fn is_end(levels: &Vec<Open>, place: Place) -> bool
+    ensures { result ≡ place_end place (reverse levels.now.items) }
+{
+    match place {
+        Place::After => levels.is_empty(),
+        _ => false,
+    }
+}

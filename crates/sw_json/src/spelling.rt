@@ -1,0 +1,40 @@
+//! What bytes spell, as laws: each is the contract of a function that does nothing.
+
+ghost use Rattle.std.specs.Prelude.{◌≡◌, ◌≤◌, ◌↔◌, ℕ, List, [], Some, Ok, Err};
+ghost use Rattle.sw_tree.specs.Tree.{Tree, depth};
+ghost use Rattle.sw_tree.specs.Image.{image};
+ghost use Rattle.sw_tree.specs.declared.mode.WireKind.TheVariants.{Json};
+ghost use Rattle.sw_tree.specs.declared.mode.Place.TheVariants.{Value};
+ghost use Rattle.sw_tree.specs.declared.fail.WireError.{WireError};
+ghost use Rattle.sw_json.specs.Raw.{Raw};
+ghost use Rattle.sw_json.specs.Grammar.{Spells};
+ghost use Rattle.sw_json.specs.Spelled.{SpellsTree, IsCause, spelled};
+ghost use Rattle.sw_json.specs.Text.{text_of, json_text};
+ghost use Rattle.sw_json.specs.Imaged.{IsLawful, IsImaged};
+
+/// Given bytes spell at most one raw tree at an offset.
+pub fn at_most_one_tree()
+    ensures { (off : ℕ) (bytes : List ℕ) (r s : Raw) → Spells off bytes r → Spells off bytes s → r ≡ s }
+{}
+
+/// What `spelled` computes is what the grammar says: a tree exactly where the bytes spell
+/// it, and otherwise an error exactly where it is the cause: `Syntax` where the bytes spell
+/// no raw tree, and a fault where it is the first of the one that they spell.
+pub fn spelled_is_the_grammar()
+    ensures tree { (bytes : List ℕ) (t : Tree) → (spelled bytes ≡ Ok t) ↔ SpellsTree bytes t }
+    ensures none { (bytes : List ℕ) (e : WireError) → (spelled bytes ≡ Err e) ↔ IsCause bytes e }
+{}
+
+/// The compact text of a tree spells that tree, and so no other, where it has at most 128
+/// levels, its numbers are from -2^127 to 2^128 - 1, its texts and keys are UTF-8, and no
+/// byte string is in it.
+pub fn printed_text_spells_the_tree()
+    ensures { (t : Tree) → IsImaged t → depth t ≤ 128 → spelled (text_of t []) ≡ Ok t }
+{}
+
+/// The image in JSON of a lawful tree is such a tree, and has no more levels; so what a
+/// lawful tree of at most 128 levels prints as spells its image.
+pub fn printed_text_spells_the_image()
+    ensures imaged { (t i : Tree) → IsLawful t → image Json Value t ≡ Some i → IsImaged i × (depth i ≤ depth t) }
+    ensures spells { (t : Tree) (s : List ℕ) → IsLawful t → depth t ≤ 128 → json_text t ≡ Some s → (i : Tree) × (image Json Value t ≡ Some i) × (spelled s ≡ Ok i) }
+{}
