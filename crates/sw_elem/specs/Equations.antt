@@ -1,0 +1,48 @@
+-- What a writer and a reader are, as functions of meanings and trees in each mode, and the law of a reader.
+use Rattle.std.specs.Prelude.{◌≡◌, ℕ, ◌<◌, List, [], Result, Ok, Err}
+use Rattle.std.proofs.Common.{arith}
+use Rattle.sw_tree.specs.Meaning.{Meaning}
+use Rattle.sw_tree.specs.Placed.{Note}
+use Rattle.sw_tree.specs.Tree.{Tree, size}
+use Rattle.sw_tree.specs.Tree as tree
+use Rattle.sw_tree.specs.declared.mode.Mode.{Mode}
+use Rattle.sw_tree.specs.declared.fail.SerError.{SerError}
+use Rattle.sw_tree.specs.declared.fail.DeError.{DeError}
+
+-- the tree of a meaning, or why it isn't written
+abbrev pub Writes : Type 0
+Writes = Mode → Meaning → Result Tree SerError
+
+-- the meaning of a tree, or why it is refused
+abbrev pub Reads : Type 0
+Reads = Mode → Tree → Result Meaning DeError
+
+-- the number of the refused node, where the tree is refused
+abbrev pub Spots : Type 0
+Spots = Mode → Tree → ℕ
+
+-- the refusals that are passed over
+abbrev pub Skips : Type 0
+Skips = Mode → Tree → List Note
+
+-- what is read is one of those meanings, and a refused node is one of the tree's
+pub record LawfulReading (P : Meaning → Type 0) (reads : Reads) (spot : Spots) : Type 0 where
+  pub meanings : (m : Mode) (t : Tree) (v : Meaning) → reads m t ≡ Ok v → P v
+  pub inside : (m : Mode) (t : Tree) (e : DeError) → reads m t ≡ Err e → spot m t < size t
+
+-- a reader that refuses its own node alone
+abbrev pub own_spot : Spots
+own_spot m t = 0
+
+-- and passes nothing over
+abbrev pub no_skips : Skips
+no_skips m t = []
+
+pub own_spot-inside : (m : Mode) (t : Tree) → own_spot m t < size t
+own_spot-inside m tree.null = omega arith
+own_spot-inside m (tree.truth b) = omega arith
+own_spot-inside m (tree.int n) = omega arith
+own_spot-inside m (tree.text s) = omega arith
+own_spot-inside m (tree.bytes s) = omega arith
+own_spot-inside m (tree.list ts) = omega arith
+own_spot-inside m (tree.map es) = omega arith

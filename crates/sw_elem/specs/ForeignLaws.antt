@@ -1,0 +1,129 @@
+-- The law of trees by themselves.
+use Rattle.std.specs.Prelude.{◌≡◌, ℕ, ◌+◌, ◌<◌, Bool, true, false, ◌&&◌, Option, Some, None, Ok, Err}
+use Rattle.std.proofs.Common.{refl, subst, arith}
+use Rattle.std.specs.Option.{option_or}
+use Rattle.sw_tree.specs.Meaning.{Meaning}
+use Rattle.sw_tree.specs.Meaning as meaning
+use Rattle.sw_tree.specs.Tree.{Tree, null, truth, int, text, bytes, list, map, Trees, no_trees, tree, Entries, no_entries, entry, size, trees_size, entries_size}
+use Rattle.sw_tree.specs.declared.fail.DeError.{DeError}
+use Rattle.sw_elem.specs.Equations.{LawfulReading}
+use Rattle.sw_elem.specs.Foreign.{is_text, is_any, are_any, are_any_keyed, Foreign, further, foreign_key, foreign, foreign_items, foreign_entries, taken, any_reads, number_of, any_spot, IsAny}
+
+-- ---- a tree without such a node is one that is held
+
+further_none : (k : ℕ) (o : Option Foreign) → further k o ≡ None → o ≡ None
+further_none k None p = refl
+further_none k (Some f) p = absurd (cc)
+
+or_none : (a b : Option Foreign) → option_or a b ≡ None → (a ≡ None) × (b ≡ None)
+or_none None b p = (refl, p)
+or_none (Some f) b p = absurd (cc)
+
+key_is_text : (k : Tree) → foreign_key k ≡ None → is_text k ≡ true
+key_is_text (text s) p = refl
+key_is_text null p = absurd (cc)
+key_is_text (truth b) p = absurd (cc)
+key_is_text (int n) p = absurd (cc)
+key_is_text (bytes s) p = absurd (cc)
+key_is_text (list ts) p = absurd (cc)
+key_is_text (map es) p = absurd (cc)
+
+and_true : (a b : Bool) → a ≡ true → b ≡ true → (a && b) ≡ true
+and_true true b p q = q
+and_true false b p q = absurd (cc)
+
+mutual
+  pub none_foreign : (t : Tree) → foreign t ≡ None → is_any t ≡ true
+  none_foreign null p = refl
+  none_foreign (truth b) p = refl
+  none_foreign (int n) p = refl
+  none_foreign (text s) p = refl
+  none_foreign (bytes s) p = absurd (cc)
+  none_foreign (list ts) p = none_foreign_items ts (further_none 1 (foreign_items ts) p)
+  none_foreign (map es) p = none_foreign_entries es (further_none 1 (foreign_entries es) p)
+
+  none_foreign_items : (ts : Trees) → foreign_items ts ≡ None → are_any ts ≡ true
+  none_foreign_items no_trees p = refl
+  none_foreign_items (tree t ts) p =
+      let q = or_none (foreign t) (further (size t) (foreign_items ts)) p in
+      and_true (is_any t) (are_any ts) (none_foreign t q.0) (none_foreign_items ts (further_none (size t) (foreign_items ts) q.1))
+
+  none_foreign_entries : (es : Entries) → foreign_entries es ≡ None → are_any_keyed es ≡ true
+  none_foreign_entries no_entries p = refl
+  none_foreign_entries (entry k v es) p =
+      let behind = further (size v) (foreign_entries es) in
+      let q = or_none (foreign_key k) (further (size k) (option_or (foreign v) behind)) p in
+      let r = or_none (foreign v) behind (further_none (size k) (option_or (foreign v) behind) q.1) in
+      and_true (is_text k) (is_any v && are_any_keyed es) (key_is_text k q.0)
+      (and_true (is_any v) (are_any_keyed es) (none_foreign v r.0) (none_foreign_entries es (further_none (size v) (foreign_entries es) r.1)))
+
+-- ---- such a node is one of the tree's
+
+abbrev Within : ℕ → Option Foreign → Type 0
+Within n None = Unit {0}
+Within n (Some f) = f.number < n
+
+further_within : (k n : ℕ) (o : Option Foreign) → Within n o → Within (k + n) (further k o)
+further_within k n None h = tt
+further_within k n (Some f) h = omega arith
+
+wider : (m n : ℕ) (o : Option Foreign) → Within m o → m < n + 1 → Within n o
+wider m n None h w = tt
+wider m n (Some f) h w = omega arith
+
+or_within : (n : ℕ) (a b : Option Foreign) → Within n a → Within n b → Within n (option_or a b)
+or_within n None b h k = k
+or_within n (Some f) b h k = h
+
+key_within : (k : Tree) → Within (size k) (foreign_key k)
+key_within null = omega arith
+key_within (truth b) = omega arith
+key_within (int n) = omega arith
+key_within (text s) = tt
+key_within (bytes s) = omega arith
+key_within (list ts) = omega arith
+key_within (map es) = omega arith
+
+mutual
+  foreign_within : (t : Tree) → Within (size t) (foreign t)
+  foreign_within null = tt
+  foreign_within (truth b) = tt
+  foreign_within (int n) = tt
+  foreign_within (text s) = tt
+  foreign_within (bytes s) = omega arith
+  foreign_within (list ts) = wider (1 + trees_size ts) (size (list ts)) (further 1 (foreign_items ts)) (further_within 1 (trees_size ts) (foreign_items ts) (items_within ts)) (omega arith)
+  foreign_within (map es) = wider (1 + entries_size es) (size (map es)) (further 1 (foreign_entries es)) (further_within 1 (entries_size es) (foreign_entries es) (entries_within es)) (omega arith)
+
+  items_within : (ts : Trees) → Within (trees_size ts) (foreign_items ts)
+  items_within no_trees = tt
+  items_within (tree t ts) =
+      or_within (size t + trees_size ts) (foreign t) (further (size t) (foreign_items ts))
+      (wider (size t) (size t + trees_size ts) (foreign t) (foreign_within t) (omega arith))
+      (further_within (size t) (trees_size ts) (foreign_items ts) (items_within ts))
+
+  entries_within : (es : Entries) → Within (entries_size es) (foreign_entries es)
+  entries_within no_entries = tt
+  entries_within (entry k v es) =
+      let n = size k + size v + entries_size es in
+      let behind = further (size v) (foreign_entries es) in
+      let values : Within (size v + entries_size es) (option_or (foreign v) behind) =
+      or_within (size v + entries_size es) (foreign v) behind
+      (wider (size v) (size v + entries_size es) (foreign v) (foreign_within v) (omega arith))
+      (further_within (size v) (entries_size es) (foreign_entries es) (entries_within es)) in
+      or_within n (foreign_key k) (further (size k) (option_or (foreign v) behind))
+      (wider (size k) n (foreign_key k) (key_within k) (omega arith))
+      (wider (size k + (size v + entries_size es)) n (further (size k) (option_or (foreign v) behind)) (further_within (size k) (size v + entries_size es) (option_or (foreign v) behind) values) (omega arith))
+
+taken_ok : (t : Tree) (o : Option Foreign) (v : Meaning) → foreign t ≡ o → taken t o ≡ Ok v → IsAny v
+taken_ok t None v e p = let k : meaning.tree t ≡ v = cc in subst IsAny k (none_foreign t e)
+taken_ok t (Some f) v e p = absurd (cc)
+
+inside : (t : Tree) (o : Option Foreign) (e : DeError) (n : ℕ) → Within n o → taken t o ≡ Err e → number_of o < n
+inside t None e n h p = absurd (cc)
+inside t (Some f) e n h p = h
+
+pub any_lawful : LawfulReading IsAny any_reads any_spot
+any_lawful = record {
+  meanings = λ m t v p. taken_ok t (foreign t) v refl p;
+  inside = λ m t e p. inside t (foreign t) e (size t) (foreign_within t) p;
+}

@@ -1,0 +1,14 @@
+pub mod Equations
+pub mod Answers
+pub mod KeyPlace
+pub mod Numbers
+pub mod NumberLaws
+pub mod Truths
+pub mod Texts
+pub mod Foreign
+pub mod ForeignLaws
+pub mod ForeignSeen
+pub mod Text
+pub mod TextLaws
+pub mod Decimal
+pub mod DecimalLaws

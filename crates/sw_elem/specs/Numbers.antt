@@ -1,0 +1,33 @@
+-- Whole numbers by themselves.
+use Rattle.std.specs.Prelude.{ℕ, ℤ, pos, negsuc, Bool, false, nat_lt, if◌then◌else◌, Result, Ok, Err}
+use Rattle.sw_tree.specs.Meaning.{Meaning, number}
+use Rattle.sw_tree.specs.Number.{key_number}
+use Rattle.sw_tree.specs.Steps.{bind}
+use Rattle.sw_tree.specs.Tree.{int_at}
+use Rattle.sw_tree.specs.Tree as node
+use Rattle.sw_tree.specs.declared.fail.DeError.{DeError}
+use Rattle.sw_tree.specs.declared.fail.DeError.TheVariants as fail
+use Rattle.sw_elem.specs.Equations.{Writes, Reads}
+use Rattle.sw_elem.specs.KeyPlace.{keyed_reads}
+
+-- the number; what no number means is free
+abbrev pub number_writes : Writes
+number_writes m (number n) = Ok (node.int n)
+number_writes m v = Ok node.null
+
+-- from 0 to below the limit
+abbrev pub is_below : ℕ → ℤ → Bool
+is_below limit (pos n) = nat_lt n limit
+is_below limit (negsuc n) = false
+
+-- from minus the limit to below the limit
+abbrev pub is_within : ℕ → ℤ → Bool
+is_within limit (pos n) = nat_lt n limit
+is_within limit (negsuc n) = nat_lt n limit
+
+abbrev pub ranged : (ℤ → Bool) → ℤ → Result Meaning DeError
+ranged fits n = if fits n then Ok (number n) else Err fail.InvalidValue
+
+-- the number that a node is or that a key's text spells, in the type's range
+abbrev pub number_reads : (ℤ → Bool) → Reads
+number_reads fits m t = bind (keyed_reads int_at key_number m t) (ranged fits)

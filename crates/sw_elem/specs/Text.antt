@@ -1,0 +1,27 @@
+-- What the calls of a text form answer, and its law.
+use Rattle.std.specs.Prelude.{◌≡◌, ℕ, List, Option, Some, None, Result, Ok, Err}
+use Rattle.sw_tree.specs.Meaning.{Meaning}
+use Rattle.sw_elem.specs.declared.text.ParseFail.{ParseFail}
+use Rattle.sw_elem.specs.declared.text.ParseFail.TheVariants as fail
+
+-- a value exactly where the text has one, Refused exactly where it has none, or want of memory
+abbrev pub IsParsed : {T : Type 0} → (T → Meaning) → Result T ParseFail → Option Meaning → Type 0
+IsParsed f (Ok x) r = r ≡ Some (f x)
+IsParsed f (Err fail.Refused) r = r ≡ None
+IsParsed f (Err fail.Memory) r = Unit {0}
+
+-- the same of a parsing that takes no memory
+abbrev pub IsParsedFreely : {T : Type 0} → (T → Meaning) → Option T → Option Meaning → Type 0
+IsParsedFreely f (Some x) r = r ≡ Some (f x)
+IsParsedFreely f None r = r ≡ None
+
+-- no want of memory
+abbrev pub ParsesFreely : {T : Type 0} → Result T ParseFail → Type 0
+ParsesFreely (Ok x) = Unit {0}
+ParsesFreely (Err fail.Refused) = Unit {0}
+ParsesFreely (Err fail.Memory) = ⊥
+
+-- what is shown of one of the type's meanings parses as it, and what parses is one of them
+pub record LawfulText (P : Meaning → Type 0) (shows : Meaning → List ℕ) (parses : List ℕ → Option Meaning) : Type 0 where
+  pub shown : (v : Meaning) → P v → parses (shows v) ≡ Some v
+  pub parsed : (s : List ℕ) (v : Meaning) → parses s ≡ Some v → P v

@@ -1,0 +1,114 @@
+-- The laws of truth values, texts, characters and nothing, by themselves and by their texts.
+use Rattle.std.specs.Prelude.{◌≡◌, ℕ, List, [], ◌∷◌, Bool, true, false, ◌&&◌, ◌==◌, if◌then◌else◌, length, Option, Some, None, option_map, Ok}
+use Rattle.std.proofs.Common.{refl, ap, sym, subst, ◌∙◌, append-nil, arith}
+use Rattle.std.specs.Option.{ok_or}
+use Rattle.std.specs.Char.{IsScalar, encode_utf8}
+use Rattle.std.specs.Str.{chars, is_utf8, all_scalars, encode_utf8_all}
+use lib.Utf8.{scalar}
+use Rattle.std.proofs.lemmas.Bool.{eqb-true}
+use Rattle.std.proofs.lemmas.Str.{IsUtf8-from_is_utf8, is_utf8-from_IsUtf8, IsUtf8-encode, chars_from_encodes, chars_past_char, chars-nil}
+use Rattle.sw_tree.specs.Meaning.{Meaning, nothing, truth, text}
+use Rattle.sw_tree.specs.Meant.{IsNothing, IsTruth, IsText, IsCharText}
+use Rattle.sw_tree.specs.Steps.{bind_ok}
+use Rattle.sw_tree.specs.Tree.{Tree, truth_at, kind_of}
+use Rattle.sw_tree.specs.Tree as node
+use Rattle.sw_tree.specs.declared.mode.Mode.{Mode}
+use Rattle.sw_tree.specs.declared.mode.Kind.{Kind}
+use Rattle.sw_tree.specs.declared.mode.Kind.TheVariants as kind
+use Rattle.sw_tree.specs.declared.fail.DeError.{DeError}
+use Rattle.sw_tree.specs.declared.fail.DeError.TheVariants as fail
+use Rattle.sw_elem.specs.Equations.{LawfulReading, own_spot, own_spot-inside}
+use Rattle.sw_elem.specs.KeyPlace.{keyed_reads}
+use Rattle.sw_elem.specs.Text.{LawfulText}
+use Rattle.sw_elem.specs.Truths.{truth_named, truth_reads, truth_shows, truth_parses}
+use Rattle.sw_elem.specs.Texts.{texted_reads, text_reads, text_shows, text_parses, is_character, character_reads, character_parses, nothing_at, nothing_reads}
+
+-- ---- truth values
+
+truth_meanings : (m : Mode) (t : Tree) (v : Meaning) → truth_reads m t ≡ Ok v → IsTruth v
+truth_meanings m t v p =
+    let q = bind_ok (keyed_reads truth_at truth_named m t) (λ b. Ok (truth b)) v p in
+    let e : truth q.0 ≡ v = cc in
+    subst IsTruth e tt
+
+pub truth_reading_lawful : LawfulReading IsTruth truth_reads own_spot
+truth_reading_lawful = record { meanings = truth_meanings; inside = λ m t e p. own_spot-inside m t }
+
+truth_parsed : (o : Option Bool) (v : Meaning) → option_map truth o ≡ Some v → IsTruth v
+truth_parsed None v p = absurd (cc)
+truth_parsed (Some b) v p = let e : truth b ≡ v = cc in subst IsTruth e tt
+
+truth_shown : (v : Meaning) → IsTruth v → truth_parses (truth_shows v) ≡ Some v
+truth_shown (truth true) h = refl
+truth_shown (truth false) h = refl
+truth_shown _ h = absurd h
+
+pub truth_lawful : LawfulText IsTruth truth_shows truth_parses
+truth_lawful = record { shown = truth_shown; parsed = λ s v p. truth_parsed (truth_named s) v p }
+
+-- ---- texts, and what they stand for
+
+parsed_ok : (o : Option Meaning) (e : DeError) (v : Meaning) → ok_or o e ≡ Ok v → o ≡ Some v
+parsed_ok (Some w) e v p = cc
+parsed_ok None e v p = absurd (cc)
+
+module _ (P : Meaning → Type 0) (parses : List ℕ → Option Meaning) (e : DeError) (law : LawfulText P text_shows parses) where
+  texted_meanings : (m : Mode) (t : Tree) (v : Meaning) → texted_reads parses e m t ≡ Ok v → P v
+  texted_meanings m (node.text s) v p = law.parsed s v (parsed_ok (parses s) e v p)
+  texted_meanings m _ v p = absurd (cc)
+
+  texted_lawful : LawfulReading P (texted_reads parses e) own_spot
+  texted_lawful = record { meanings = texted_meanings; inside = λ m t d p. own_spot-inside m t }
+
+chosen : (P : Meaning → Type 0) (x v : Meaning) (b : Bool) → (b ≡ true → P x) → (if b then Some x else None) ≡ Some v → P v
+chosen P x v true h p = let k : x ≡ v = cc in subst P k (h refl)
+chosen P x v false h p = absurd (cc)
+
+text_shown : (v : Meaning) → IsText v → text_parses (text_shows v) ≡ Some v
+text_shown (text s) h = rw h refl
+text_shown _ h = absurd h
+
+pub text_lawful : LawfulText IsText text_shows text_parses
+text_lawful = record { shown = text_shown; parsed = λ s v p. chosen IsText (text s) v (is_utf8 s) (λ h. h) p }
+
+pub text_reading_lawful : LawfulReading IsText text_reads own_spot
+text_reading_lawful = texted_lawful IsText text_parses (fail.InvalidType kind.Text) text_lawful
+
+both : (a b : Bool) → (a && b) ≡ true → (a ≡ true) × (b ≡ true)
+both true b h = (refl, h)
+both false b h = absurd (cc)
+
+one_character : (cs s : List ℕ) → all_scalars cs ≡ true → encode_utf8_all cs ≡ s → length cs ≡ 1 → IsCharText (text s)
+one_character [] s h e l = absurd (omega arith)
+one_character (c ∷ []) s h e l = (c, (both (scalar c) true h).0, sym e ∙ append-nil (encode_utf8 c))
+one_character (c ∷ d ∷ cs) s h e l = absurd (omega arith)
+
+pub character_is : (s : List ℕ) → is_character s ≡ true → IsCharText (text s)
+character_is s h =
+    let q = both (is_utf8 s) (length (chars s) == 1) h in
+    let u = IsUtf8-from_is_utf8 s q.0 in
+    one_character u.0 s u.1.0 u.1.1 (ap (λ (cs : List ℕ). length cs) (chars_from_encodes u.0 s u u.1.1) ∙ eqb-true (length (chars s)) 1 q.1)
+
+pub is_character-encode : (c : ℕ) → IsScalar c → is_character (encode_utf8 c) ≡ true
+is_character-encode c h =
+    let one : chars (encode_utf8 c) ≡ c ∷ [] = chars_past_char (encode_utf8 c) [] c (IsUtf8-encode c h) (sym (append-nil (encode_utf8 c))) ∙ ap (λ cs. c ∷ cs) chars-nil in
+    rw (is_utf8-from_IsUtf8 (encode_utf8 c) (IsUtf8-encode c h), one) refl
+
+character_shown : (v : Meaning) → IsCharText v → character_parses (text_shows v) ≡ Some v
+character_shown (text s) h = rw (h.2, is_character-encode h.0 h.1) refl
+character_shown _ h = absurd h
+
+pub character_lawful : LawfulText IsCharText text_shows character_parses
+character_lawful = record { shown = character_shown; parsed = λ s v p. chosen IsCharText (text s) v (is_character s) (character_is s) p }
+
+pub character_reading_lawful : LawfulReading IsCharText character_reads own_spot
+character_reading_lawful = texted_lawful IsCharText character_parses fail.InvalidValue character_lawful
+
+-- ---- nothing
+
+nothing_there : (k : Kind) (v : Meaning) → nothing_at k ≡ Ok v → IsNothing v
+nothing_there kind.Null v p = let e : nothing ≡ v = cc in subst IsNothing e tt
+nothing_there _ v p = absurd (cc)
+
+pub nothing_lawful : LawfulReading IsNothing nothing_reads own_spot
+nothing_lawful = record { meanings = λ m t v p. nothing_there (kind_of t) v p; inside = λ m t e p. own_spot-inside m t }

@@ -1,0 +1,109 @@
+ghost use Rattle.std.specs.Prelude.{◌≡◌, true};
+ghost use Rattle.sw_elem.specs.Foreign as foreign;
+
+use crate::foreign::{foreign_in, is_any};
+use crate::serialize::{Deserialize, Serialize};
+use std::alloc::Global;
+use sw_tree::fail::{DeFail, SerFail};
+use sw_tree::meant::{Meant, Named};
+use sw_tree::mode::Mode;
+use sw_tree::node::Node;
+use sw_tree::skipped::Skipped;
+use sw_tree::view::View;
+
+/// A tree whose keys are all texts and that has no byte string: whatever a JSON text may say.
+#[derive(Drop)]
+pub struct Any {
+    node: Node,
+    ghost held: { foreign.is_any node ≡ true },
+}
+
+impl Any {
+    ghost use Rattle.std.specs.Prelude.{false, MatchResult};
+
+    /// That tree. It takes no memory, and gives back exactly the trees that have a byte string or a
+    /// key that is no text.
+    pub fn new(node: Node) -> Result<Any, Node>
+        ensures { MatchResult
+            result
+            (λ a. (a.node ≡ node) × (foreign.is_any node ≡ true))
+            (λ n. (n ≡ node) × (foreign.is_any node ≡ false)) }
+    {
+        if is_any(&node) {
+            Ok(Any { node })
+        } else {
+            Err(node)
+        }
+    }
+
+    /// Its tree.
+    pub fn node(&self) -> &Node
+        ensures { result.now ≡ self.now.node }
+    {
+        &self.node
+    }
+}
+
+impl Named for Any {
+    ghost use Rattle.sw_tree.specs.Meaning.{tree};
+    ghost use Rattle.sw_elem.specs.Foreign.{IsAny};
+
+    ghost meaning = { λ a. tree a.node };
+
+    ghost is_meaning = { IsAny };
+}
+
+impl Meant for Any {
+    ghost use Rattle.sw_tree.specs.Meant.{Always};
+
+    ghost in_hand = { Always };
+
+    ghost meaning_is = { λ a h. a.held };
+}
+
+impl Serialize for Any {
+    ghost use Rattle.sw_elem.specs.Foreign.{any_writes};
+
+    ghost writes = { any_writes };
+
+    fn serialize(&self, alloc: Global, _mode: Mode) -> Result<Node, SerFail> {
+        match self.node.copy(alloc) {
+            Ok(copy) => Ok(copy),
+            Err(_) => Err(SerFail::Memory),
+        }
+    }
+}
+
+/// The tree, copied. The first node in reading order, a key before its value, that is a byte string
+/// or a key that is no text is refused as `InvalidType` of its kind.
+impl Deserialize for Any {
+    ghost use Rattle.std.specs.Prelude.{false};
+    ghost use Rattle.sw_elem.specs.Foreign.{any_reads, any_spot};
+    ghost use Rattle.sw_elem.specs.ForeignLaws.{any_lawful};
+
+    const FREE: bool = false;
+
+    ghost FREE = { false };
+
+    ghost reads = { any_reads };
+
+    ghost spot = { any_spot };
+
+    #[tactic(auto, using(crate::proofs::Foreigns::any_answers))]
+    fn deserialize(
+        alloc: Global,
+        view: View<'_>,
+        _mode: Mode,
+        _log: &mut Skipped,
+    ) -> Result<Any, DeFail> {
+        if let Some(refusal) = foreign_in(view) {
+            return Err(DeFail::Refused(refusal));
+        }
+        match view.to_node(alloc) {
+            Ok(node) => Ok(Any { node }),
+            Err(_) => Err(DeFail::Memory),
+        }
+    }
+
+    ghost lawful = { any_lawful };
+}

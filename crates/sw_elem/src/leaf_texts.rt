@@ -1,0 +1,94 @@
+//! The texts of truth values, characters and texts.
+
+use crate::text::{ParseFail, TextForm};
+use crate::texts::{char_in, char_text, copied};
+use crate::truths::truth_named;
+use std::alloc::{AllocError, Global};
+
+/// `true` or `false`.
+impl TextForm for bool {
+    ghost use Rattle.std.specs.Prelude.{true};
+    ghost use Rattle.sw_elem.specs.Truths.{truth_shows, truth_parses};
+    ghost use Rattle.sw_elem.specs.TextLaws.{truth_lawful};
+
+    const FREE: bool = true;
+
+    ghost FREE = { true };
+
+    ghost shows = { truth_shows };
+
+    ghost parses = { truth_parses };
+
+    fn show(&self, alloc: Global) -> Result<String, AllocError> {
+        if *self {
+            String::from_str(alloc, "true")
+        } else {
+            String::from_str(alloc, "false")
+        }
+    }
+
+    fn parse(_alloc: Global, text: &str) -> Result<bool, ParseFail> {
+        match truth_named(text) {
+            Some(value) => Ok(value),
+            None => Err(ParseFail::Refused),
+        }
+    }
+
+    ghost lawful = { truth_lawful };
+}
+
+/// Exactly one character.
+impl TextForm for char {
+    ghost use Rattle.std.specs.Prelude.{true};
+    ghost use Rattle.sw_elem.specs.Texts.{text_shows, character_parses};
+    ghost use Rattle.sw_elem.specs.TextLaws.{character_lawful};
+
+    const FREE: bool = true;
+
+    ghost FREE = { true };
+
+    ghost shows = { text_shows };
+
+    ghost parses = { character_parses };
+
+    fn show(&self, alloc: Global) -> Result<String, AllocError> {
+        char_text(alloc, *self)
+    }
+
+    fn parse(_alloc: Global, text: &str) -> Result<char, ParseFail> {
+        match char_in(text) {
+            Some(value) => Ok(value),
+            None => Err(ParseFail::Refused),
+        }
+    }
+
+    ghost lawful = { character_lawful };
+}
+
+/// Any text.
+impl TextForm for String {
+    ghost use Rattle.std.specs.Prelude.{false};
+    ghost use Rattle.sw_elem.specs.Texts.{text_shows, text_parses};
+    ghost use Rattle.sw_elem.specs.TextLaws.{text_lawful};
+
+    const FREE: bool = false;
+
+    ghost FREE = { false };
+
+    ghost shows = { text_shows };
+
+    ghost parses = { text_parses };
+
+    fn show(&self, alloc: Global) -> Result<String, AllocError> {
+        String::from_str(alloc, self.as_str())
+    }
+
+    fn parse(alloc: Global, text: &str) -> Result<String, ParseFail> {
+        match copied(alloc, text) {
+            Ok(copy) => Ok(copy),
+            Err(_) => Err(ParseFail::Memory),
+        }
+    }
+
+    ghost lawful = { text_lawful };
+}

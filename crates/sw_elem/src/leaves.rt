@@ -1,0 +1,187 @@
+//! Truth values, characters, texts and `()`, each by itself.
+
+use crate::refuse::refused_at;
+use crate::serialize::{Deserialize, Serialize};
+use crate::texts::{char_in, char_text, copied};
+use crate::truths::bool_at;
+use std::alloc::Global;
+use sw_tree::fail::{DeError, DeFail, SerFail};
+use sw_tree::mode::{Kind, Mode};
+use sw_tree::node::Node;
+use sw_tree::skipped::Skipped;
+use sw_tree::view::View;
+
+impl Serialize for bool {
+    ghost use Rattle.sw_elem.specs.Truths.{truth_writes};
+
+    ghost writes = { truth_writes };
+
+    fn serialize(&self, _alloc: Global, _mode: Mode) -> Result<Node, SerFail> {
+        Ok(Node::bool(*self))
+    }
+}
+
+/// In key place of JSON, not buffered, the texts `true` and `false` are read as truth values, and
+/// another text is refused as `InvalidType` of a text; else a text is refused so, as every node is
+/// that is no truth value.
+impl Deserialize for bool {
+    ghost use Rattle.std.specs.Prelude.{true};
+    ghost use Rattle.sw_elem.specs.Equations.{own_spot};
+    ghost use Rattle.sw_elem.specs.Truths.{truth_reads};
+    ghost use Rattle.sw_elem.specs.TextLaws.{truth_reading_lawful};
+
+    const FREE: bool = true;
+
+    ghost FREE = { true };
+
+    ghost reads = { truth_reads };
+
+    ghost spot = { own_spot };
+
+    fn deserialize(
+        _alloc: Global,
+        view: View<'_>,
+        mode: Mode,
+        _log: &mut Skipped,
+    ) -> Result<bool, DeFail> {
+        match bool_at(view, mode) {
+            Ok(value) => Ok(value),
+            Err(refusal) => Err(DeFail::Refused(refusal)),
+        }
+    }
+
+    ghost lawful = { truth_reading_lawful };
+}
+
+impl Serialize for char {
+    ghost use Rattle.sw_elem.specs.Texts.{text_writes};
+
+    ghost writes = { text_writes };
+
+    fn serialize(&self, alloc: Global, _mode: Mode) -> Result<Node, SerFail> {
+        match char_text(alloc, *self) {
+            Ok(text) => Ok(Node::text(text)),
+            Err(_) => Err(SerFail::Memory),
+        }
+    }
+}
+
+/// A text of one character. Another text is refused as `InvalidValue`, and a node of another kind
+/// as `InvalidType` of that kind.
+impl Deserialize for char {
+    ghost use Rattle.std.specs.Prelude.{true};
+    ghost use Rattle.sw_elem.specs.Equations.{own_spot};
+    ghost use Rattle.sw_elem.specs.Texts.{character_reads};
+    ghost use Rattle.sw_elem.specs.TextLaws.{character_reading_lawful};
+
+    const FREE: bool = true;
+
+    ghost FREE = { true };
+
+    ghost reads = { character_reads };
+
+    ghost spot = { own_spot };
+
+    fn deserialize(
+        _alloc: Global,
+        view: View<'_>,
+        _mode: Mode,
+        _log: &mut Skipped,
+    ) -> Result<char, DeFail> {
+        match view.as_text() {
+            None => Err(refused_at(view, DeError::InvalidType(view.kind()))),
+            Some(text) => match char_in(text) {
+                Some(value) => Ok(value),
+                None => Err(refused_at(view, DeError::InvalidValue)),
+            },
+        }
+    }
+
+    ghost lawful = { character_reading_lawful };
+}
+
+impl Serialize for String {
+    ghost use Rattle.sw_elem.specs.Texts.{text_writes};
+
+    ghost writes = { text_writes };
+
+    fn serialize(&self, alloc: Global, _mode: Mode) -> Result<Node, SerFail> {
+        match String::from_str(alloc, self.as_str()) {
+            Ok(text) => Ok(Node::text(text)),
+            Err(_) => Err(SerFail::Memory),
+        }
+    }
+}
+
+/// A text. A node of another kind is refused as `InvalidType` of that kind.
+impl Deserialize for String {
+    ghost use Rattle.std.specs.Prelude.{false};
+    ghost use Rattle.sw_elem.specs.Equations.{own_spot};
+    ghost use Rattle.sw_elem.specs.Texts.{text_reads};
+    ghost use Rattle.sw_elem.specs.TextLaws.{text_reading_lawful};
+
+    const FREE: bool = false;
+
+    ghost FREE = { false };
+
+    ghost reads = { text_reads };
+
+    ghost spot = { own_spot };
+
+    fn deserialize(
+        alloc: Global,
+        view: View<'_>,
+        _mode: Mode,
+        _log: &mut Skipped,
+    ) -> Result<String, DeFail> {
+        match view.as_text() {
+            None => Err(refused_at(view, DeError::InvalidType(view.kind()))),
+            Some(text) => match copied(alloc, text) {
+                Ok(copy) => Ok(copy),
+                Err(_) => Err(DeFail::Memory),
+            },
+        }
+    }
+
+    ghost lawful = { text_reading_lawful };
+}
+
+impl Serialize for () {
+    ghost use Rattle.sw_elem.specs.Texts.{nothing_writes};
+
+    ghost writes = { nothing_writes };
+
+    fn serialize(&self, _alloc: Global, _mode: Mode) -> Result<Node, SerFail> {
+        Ok(Node::null())
+    }
+}
+
+/// The null. A node of another kind is refused as `InvalidType` of that kind.
+impl Deserialize for () {
+    ghost use Rattle.std.specs.Prelude.{true};
+    ghost use Rattle.sw_elem.specs.Equations.{own_spot};
+    ghost use Rattle.sw_elem.specs.Texts.{nothing_reads};
+    ghost use Rattle.sw_elem.specs.TextLaws.{nothing_lawful};
+
+    const FREE: bool = true;
+
+    ghost FREE = { true };
+
+    ghost reads = { nothing_reads };
+
+    ghost spot = { own_spot };
+
+    fn deserialize(
+        _alloc: Global,
+        view: View<'_>,
+        _mode: Mode,
+        _log: &mut Skipped,
+    ) -> Result<(), DeFail> {
+        match view.kind() {
+            Kind::Null => Ok(()),
+            kind => Err(refused_at(view, DeError::InvalidType(kind))),
+        }
+    }
+
+    ghost lawful = { nothing_lawful };
+}

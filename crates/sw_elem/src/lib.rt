@@ -1,0 +1,27 @@
+//! The types that stand at the leaves of a nest, and the words in which readers and writers answer.
+#![tactic(auto)]
+
+pub mod any;
+mod digits;
+mod foreign;
+mod key_place;
+mod leaf_texts;
+mod leaves;
+mod numbers;
+pub mod refuse;
+pub mod serialize;
+mod signed;
+mod signed_texts;
+pub mod text;
+mod texts;
+mod truths;
+mod unsigned;
+mod unsigned_texts;
+
+pub use any::Any;
+pub use refuse::refused_at;
+pub use serialize::{Deserialize, Serialize};
+pub use text::{ParseFail, TextForm};
+
+#[cfg(test)]
+mod tests;

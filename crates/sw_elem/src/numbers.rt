@@ -1,0 +1,111 @@
+//! Whole numbers by themselves, of any width.
+
+ghost use Rattle.std.specs.Prelude.{◌≡◌, ◌<◌, ◌≤◌, ◌+◌, ◌^◌, pos, IfOk};
+ghost use Rattle.std.specs.Int.Signed.{mag};
+ghost use Rattle.std.specs.Option.{option_and_then};
+ghost use Rattle.sw_tree.specs.Meaning.{number as number_meaning};
+ghost use Rattle.sw_tree.specs.Meant.{unsigned_meaning};
+ghost use Rattle.sw_tree.specs.Number.{key_number};
+ghost use Rattle.sw_tree.specs.Placed.{placed};
+ghost use Rattle.sw_tree.specs.Tree.{int, int_at};
+ghost use Rattle.sw_tree.specs.View.{seen, tree_of};
+ghost use Rattle.sw_elem.specs.Answers.{IsReadFreely};
+ghost use Rattle.sw_elem.specs.Equations.{own_spot};
+ghost use Rattle.sw_elem.specs.KeyPlace.{key_text, keyed_reads};
+ghost use Rattle.sw_elem.specs.Numbers as numbers;
+ghost use Rattle.sw_elem.specs.Numbers.{is_below, number_reads};
+
+use crate::key_place;
+use crate::refuse::refusal_at;
+use sw_tree::fail::{DeError, Refusal};
+use sw_tree::mode::Mode;
+use sw_tree::node::Node;
+use sw_tree::number;
+use sw_tree::view::View;
+use sw_tree::whole::Whole;
+
+/// The number that the node's text spells, where a text may stand for a number.
+fn spelled(view: View<'_>, mode: Mode) -> Option<Whole>
+    ensures { result ≡ option_and_then key_number (key_text mode (tree_of view.entry)) }
+{
+    match key_place::key_text(view, mode) {
+        Some(text) => number::key_number(text),
+        None => None,
+    }
+}
+
+/// The number that the node is, or that its text spells where a text may stand for a number.
+#[tactic(auto, using(crate::proofs::KeyTexts::keyed))]
+fn whole_at(view: View<'_>, mode: Mode) -> Result<Whole, Refusal>
+    ensures { result ≡ placed (keyed_reads int_at key_number mode) (own_spot mode) (seen view.entry) }
+{
+    if let Some(number) = view.as_int() {
+        return Ok(number);
+    }
+    match spelled(view, mode) {
+        Some(number) => Ok(number),
+        None => Err(refusal_at(view, DeError::InvalidType(view.kind()))),
+    }
+}
+
+/// That number, where it is from 0 to `most`.
+pub(crate) fn unsigned_at(view: View<'_>, mode: Mode, most: u128) -> Result<u128, Refusal>
+    ensures answer { IsReadFreely unsigned_meaning result (placed (number_reads (is_below (most + 1)) mode) (own_spot mode) (seen view.entry)) }
+    ensures within { IfOk result (λ n. n ≤ most) }
+{
+    let number = match whole_at(view, mode) {
+        Ok(number) => number,
+        Err(refusal) => return Err(refusal),
+    };
+    match number.to_u128() {
+        Some(value) if value <= most => Ok(value),
+        _ => Err(refusal_at(view, DeError::InvalidValue)),
+    }
+}
+
+/// Whether the number is from `-most - 1` to `most`.
+pub(crate) fn is_within(value: i128, most: u128) -> bool
+    ensures { result ≡ numbers.is_within (most + 1) value }
+{
+    if value >= 0 {
+        value as u128 <= most
+    } else {
+        (-(value + 1)) as u128 <= most
+    }
+}
+
+/// That number, where it is from `-most - 1` to `most`.
+pub(crate) fn signed_at(view: View<'_>, mode: Mode, most: u128) -> Result<i128, Refusal>
+    requires { most < 2 ^ 127 }
+    ensures answer { IsReadFreely number_meaning result (placed (number_reads (numbers.is_within (most + 1)) mode) (own_spot mode) (seen view.entry)) }
+    ensures within { IfOk result (λ n. mag n ≤ most) }
+{
+    let number = match whole_at(view, mode) {
+        Ok(number) => number,
+        Err(refusal) => return Err(refusal),
+    };
+    match number.to_i128() {
+        Some(value) => {
+            if is_within(value, most) {
+                Ok(value)
+            } else {
+                Err(refusal_at(view, DeError::InvalidValue))
+            }
+        }
+        None => Err(refusal_at(view, DeError::InvalidValue)),
+    }
+}
+
+/// The tree of a number that isn't negative.
+pub(crate) fn unsigned_node(value: u128) -> Node
+    ensures { result ≡ int (pos value) }
+{
+    Node::int(Whole::from_u128(value))
+}
+
+/// The tree of that number.
+pub(crate) fn signed_node(value: i128) -> Node
+    ensures { result ≡ int value }
+{
+    Node::int(Whole::from_i128(value))
+}

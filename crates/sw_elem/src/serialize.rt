@@ -1,0 +1,58 @@
+use std::alloc::Global;
+use sw_tree::fail::{DeFail, SerFail};
+use sw_tree::meant::Meant;
+use sw_tree::mode::Mode;
+use sw_tree::node::Node;
+use sw_tree::skipped::Skipped;
+use sw_tree::view::View;
+
+/// A type that writes itself, in place of serde's `Serialize`.
+///
+/// It names the tree of each meaning in each mode, or why it isn't written.
+pub trait Serialize: Meant {
+    ghost use Rattle.sw_elem.specs.Equations.{Writes};
+    ghost use Rattle.sw_elem.specs.Answers.{IsWritten};
+
+    ghost writes: { Writes };
+
+    /// The value's tree in that mode. `Unwritable` exactly where the value has none, with its reason.
+    fn serialize(&self, alloc: Global, mode: Mode) -> Result<Node, SerFail>
+        ensures { IsWritten result (writes mode (Self.meaning self.now)) };
+}
+
+/// A type that reads itself, in place of serde's `Deserialize`.
+///
+/// It names, in each mode, the meaning of each tree or why it is refused, and the number of the
+/// refused node, from 0 in preorder, a key before its value.
+pub trait Deserialize: Meant + Sized {
+    ghost use Rattle.std.specs.Prelude.{◌≡◌, Bool, true};
+    ghost use Rattle.sw_tree.specs.Placed.{placed};
+    ghost use Rattle.sw_tree.specs.View.{seen};
+    ghost use Rattle.sw_elem.specs.Equations.{Reads, Spots, LawfulReading};
+    ghost use Rattle.sw_elem.specs.Answers.{IsRead, ReadsFreely};
+
+    /// Whether reading takes no memory.
+    const FREE: bool;
+
+    ghost FREE: { Bool };
+
+    ghost reads: { Reads };
+
+    ghost spot: { Spots };
+
+    /// The value of the view's tree in that mode. `Refused` exactly where the tree has none, with its
+    /// reason and the place of the refused node; `Memory` only where `FREE` is false.
+    ///
+    /// It passes nothing over, so the log stays as it was.
+    fn deserialize(
+        alloc: Global,
+        view: View<'_>,
+        mode: Mode,
+        log: &mut Skipped,
+    ) -> Result<Self, DeFail>
+        ensures answer { IsRead Self.meaning result (placed (reads mode) (spot mode) (seen view.entry)) }
+        ensures logs { log.new ≡ log.old }
+        ensures free { FREE ≡ true → ReadsFreely result };
+
+    ghost lawful: { LawfulReading Self.is_meaning reads spot };
+}

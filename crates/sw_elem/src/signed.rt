@@ -1,0 +1,250 @@
+//! The signed whole number types, each a number by itself, as the unsigned ones.
+
+use crate::numbers::{signed_at, signed_node};
+use crate::serialize::{Deserialize, Serialize};
+use std::alloc::Global;
+use sw_tree::fail::{DeFail, SerFail};
+use sw_tree::mode::Mode;
+use sw_tree::node::Node;
+use sw_tree::skipped::Skipped;
+use sw_tree::view::View;
+
+impl Serialize for i8 {
+    ghost use Rattle.sw_elem.specs.Numbers.{number_writes};
+
+    ghost writes = { number_writes };
+
+    fn serialize(&self, _alloc: Global, _mode: Mode) -> Result<Node, SerFail> {
+        Ok(signed_node(i128::from(*self)))
+    }
+}
+
+impl Deserialize for i8 {
+    ghost use Rattle.std.specs.Prelude.{◌^◌, true};
+    ghost use Rattle.std.specs.Int.{w8};
+    ghost use Rattle.sw_elem.specs.Equations.{own_spot};
+    ghost use Rattle.sw_elem.specs.Numbers.{is_within, number_reads};
+    ghost use Rattle.sw_elem.specs.NumberLaws.{signed_number_lawful};
+
+    const FREE: bool = true;
+
+    ghost FREE = { true };
+
+    ghost reads = { number_reads (is_within (2 ^ 7)) };
+
+    ghost spot = { own_spot };
+
+    fn deserialize(
+        _alloc: Global,
+        view: View<'_>,
+        mode: Mode,
+        _log: &mut Skipped,
+    ) -> Result<i8, DeFail> {
+        match signed_at(view, mode, i8::MAX as u128) {
+            Ok(value) => Ok(value as i8),
+            Err(refusal) => Err(DeFail::Refused(refusal)),
+        }
+    }
+
+    ghost lawful = { signed_number_lawful w8 };
+}
+
+impl Serialize for i16 {
+    ghost use Rattle.sw_elem.specs.Numbers.{number_writes};
+
+    ghost writes = { number_writes };
+
+    fn serialize(&self, _alloc: Global, _mode: Mode) -> Result<Node, SerFail> {
+        Ok(signed_node(i128::from(*self)))
+    }
+}
+
+impl Deserialize for i16 {
+    ghost use Rattle.std.specs.Prelude.{◌^◌, true};
+    ghost use Rattle.std.specs.Int.{w16};
+    ghost use Rattle.sw_elem.specs.Equations.{own_spot};
+    ghost use Rattle.sw_elem.specs.Numbers.{is_within, number_reads};
+    ghost use Rattle.sw_elem.specs.NumberLaws.{signed_number_lawful};
+
+    const FREE: bool = true;
+
+    ghost FREE = { true };
+
+    ghost reads = { number_reads (is_within (2 ^ 15)) };
+
+    ghost spot = { own_spot };
+
+    fn deserialize(
+        _alloc: Global,
+        view: View<'_>,
+        mode: Mode,
+        _log: &mut Skipped,
+    ) -> Result<i16, DeFail> {
+        match signed_at(view, mode, i16::MAX as u128) {
+            Ok(value) => Ok(value as i16),
+            Err(refusal) => Err(DeFail::Refused(refusal)),
+        }
+    }
+
+    ghost lawful = { signed_number_lawful w16 };
+}
+
+impl Serialize for i32 {
+    ghost use Rattle.sw_elem.specs.Numbers.{number_writes};
+
+    ghost writes = { number_writes };
+
+    fn serialize(&self, _alloc: Global, _mode: Mode) -> Result<Node, SerFail> {
+        Ok(signed_node(i128::from(*self)))
+    }
+}
+
+impl Deserialize for i32 {
+    ghost use Rattle.std.specs.Prelude.{◌^◌, true};
+    ghost use Rattle.std.specs.Int.{w32};
+    ghost use Rattle.sw_elem.specs.Equations.{own_spot};
+    ghost use Rattle.sw_elem.specs.Numbers.{is_within, number_reads};
+    ghost use Rattle.sw_elem.specs.NumberLaws.{signed_number_lawful};
+
+    const FREE: bool = true;
+
+    ghost FREE = { true };
+
+    ghost reads = { number_reads (is_within (2 ^ 31)) };
+
+    ghost spot = { own_spot };
+
+    fn deserialize(
+        _alloc: Global,
+        view: View<'_>,
+        mode: Mode,
+        _log: &mut Skipped,
+    ) -> Result<i32, DeFail> {
+        match signed_at(view, mode, i32::MAX as u128) {
+            Ok(value) => Ok(value as i32),
+            Err(refusal) => Err(DeFail::Refused(refusal)),
+        }
+    }
+
+    ghost lawful = { signed_number_lawful w32 };
+}
+
+impl Serialize for i64 {
+    ghost use Rattle.sw_elem.specs.Numbers.{number_writes};
+
+    ghost writes = { number_writes };
+
+    fn serialize(&self, _alloc: Global, _mode: Mode) -> Result<Node, SerFail> {
+        Ok(signed_node(i128::from(*self)))
+    }
+}
+
+impl Deserialize for i64 {
+    ghost use Rattle.std.specs.Prelude.{◌^◌, true};
+    ghost use Rattle.std.specs.Int.{w64};
+    ghost use Rattle.sw_elem.specs.Equations.{own_spot};
+    ghost use Rattle.sw_elem.specs.Numbers.{is_within, number_reads};
+    ghost use Rattle.sw_elem.specs.NumberLaws.{signed_number_lawful};
+
+    const FREE: bool = true;
+
+    ghost FREE = { true };
+
+    ghost reads = { number_reads (is_within (2 ^ 63)) };
+
+    ghost spot = { own_spot };
+
+    fn deserialize(
+        _alloc: Global,
+        view: View<'_>,
+        mode: Mode,
+        _log: &mut Skipped,
+    ) -> Result<i64, DeFail> {
+        match signed_at(view, mode, i64::MAX as u128) {
+            Ok(value) => Ok(value as i64),
+            Err(refusal) => Err(DeFail::Refused(refusal)),
+        }
+    }
+
+    ghost lawful = { signed_number_lawful w64 };
+}
+
+impl Serialize for i128 {
+    ghost use Rattle.sw_elem.specs.Numbers.{number_writes};
+
+    ghost writes = { number_writes };
+
+    fn serialize(&self, _alloc: Global, _mode: Mode) -> Result<Node, SerFail> {
+        Ok(signed_node(*self))
+    }
+}
+
+impl Deserialize for i128 {
+    ghost use Rattle.std.specs.Prelude.{◌^◌, true};
+    ghost use Rattle.std.specs.Int.{w128};
+    ghost use Rattle.sw_elem.specs.Equations.{own_spot};
+    ghost use Rattle.sw_elem.specs.Numbers.{is_within, number_reads};
+    ghost use Rattle.sw_elem.specs.NumberLaws.{signed_number_lawful};
+
+    const FREE: bool = true;
+
+    ghost FREE = { true };
+
+    ghost reads = { number_reads (is_within (2 ^ 127)) };
+
+    ghost spot = { own_spot };
+
+    fn deserialize(
+        _alloc: Global,
+        view: View<'_>,
+        mode: Mode,
+        _log: &mut Skipped,
+    ) -> Result<i128, DeFail> {
+        match signed_at(view, mode, i128::MAX as u128) {
+            Ok(value) => Ok(value),
+            Err(refusal) => Err(DeFail::Refused(refusal)),
+        }
+    }
+
+    ghost lawful = { signed_number_lawful w128 };
+}
+
+impl Serialize for isize {
+    ghost use Rattle.sw_elem.specs.Numbers.{number_writes};
+
+    ghost writes = { number_writes };
+
+    fn serialize(&self, _alloc: Global, _mode: Mode) -> Result<Node, SerFail> {
+        Ok(signed_node(*self as i128))
+    }
+}
+
+impl Deserialize for isize {
+    ghost use Rattle.std.specs.Prelude.{◌^◌, true};
+    ghost use Rattle.std.specs.Int.{w64};
+    ghost use Rattle.sw_elem.specs.Equations.{own_spot};
+    ghost use Rattle.sw_elem.specs.Numbers.{is_within, number_reads};
+    ghost use Rattle.sw_elem.specs.NumberLaws.{signed_number_lawful};
+
+    const FREE: bool = true;
+
+    ghost FREE = { true };
+
+    ghost reads = { number_reads (is_within (2 ^ 63)) };
+
+    ghost spot = { own_spot };
+
+    fn deserialize(
+        _alloc: Global,
+        view: View<'_>,
+        mode: Mode,
+        _log: &mut Skipped,
+    ) -> Result<isize, DeFail> {
+        match signed_at(view, mode, isize::MAX as u128) {
+            Ok(value) => Ok(value as isize),
+            Err(refusal) => Err(DeFail::Refused(refusal)),
+        }
+    }
+
+    ghost lawful = { signed_number_lawful w64 };
+}

@@ -1,0 +1,42 @@
+ghost use Rattle.std.specs.Prelude.{◌≡◌, IfOk, true, string_bytes};
+
+use std::alloc::{AllocError, Global};
+use sw_tree::meant::Meant;
+
+/// Why a text isn't parsed.
+#[derive(Clone, Copy, PartialEq, Eq)]
+pub enum ParseFail {
+    /// The text is none of a value of the type.
+    Refused,
+    Memory,
+}
+
+/// A type whose values have a text each, in place of Rust's `Display` and `FromStr`.
+///
+/// It names the text of each meaning and the meaning of each text, if it has one. What is shown
+/// parses as the value that was shown.
+pub trait TextForm: Meant {
+    ghost use Rattle.std.specs.Prelude.{List, ℕ, Bool, Option};
+    ghost use Rattle.sw_tree.specs.Meaning.{Meaning};
+    ghost use Rattle.sw_elem.specs.Text.{IsParsed, ParsesFreely, LawfulText};
+
+    /// Whether parsing takes no memory.
+    const FREE: bool;
+
+    ghost FREE: { Bool };
+
+    ghost shows: { Meaning → List ℕ };
+
+    ghost parses: { List ℕ → Option Meaning };
+
+    /// The value's text. The one error is want of memory.
+    fn show(&self, alloc: Global) -> Result<String, AllocError>
+        ensures { IfOk result (λ s. string_bytes s ≡ shows (Self.meaning self.now)) };
+
+    /// The value of the text. `Refused` exactly where the text has none; `Memory` only where `FREE` is false.
+    fn parse(alloc: Global, text: &str) -> Result<Self, ParseFail>
+        ensures value { IsParsed Self.meaning result (parses text.now) }
+        ensures free { FREE ≡ true → ParsesFreely result };
+
+    ghost lawful: { LawfulText Self.is_meaning shows parses };
+}
