@@ -1,0 +1,61 @@
+use std::alloc::Global;
+use sw_tree::fail::{DeFail, SerFail};
+use sw_tree::meant::Meant;
+use sw_tree::mode::Mode;
+use sw_tree::node::Node;
+use sw_tree::skipped::Skipped;
+use sw_tree::view::View;
+
+/// Writes a `T`, in place of serde_with's `SerializeAs`.
+///
+/// It names the tree of each meaning in each mode, or why it isn't written.
+pub trait SerializeAs<T: Meant> {
+    ghost use Rattle.sw_elem.specs.Equations.{Writes};
+    ghost use Rattle.sw_elem.specs.Answers.{IsWritten};
+
+    ghost writes: { Writes };
+
+    /// The value's tree in that mode. `Unwritable` exactly where the value has none, with its reason.
+    fn serialize_as(alloc: Global, source: &T, mode: Mode) -> Result<Node, SerFail>
+        ensures { IsWritten result (writes mode (T.meaning source.now)) };
+}
+
+/// Reads a `T`, in place of serde_with's `DeserializeAs`.
+///
+/// It names, in each mode, the meaning of each tree or why it is refused; the number of the refused
+/// node, from 0 in preorder, a key before its value; and the refusals that are passed over.
+pub trait DeserializeAs<T: Meant>: Sized {
+    ghost use Rattle.std.specs.Prelude.{◌≡◌, Bool, true};
+    ghost use Rattle.sw_tree.specs.Placed.{placed, placed_notes};
+    ghost use Rattle.sw_tree.specs.View.{seen, tree_of};
+    ghost use Rattle.sw_elem.specs.Equations.{Reads, Spots, Skips, LawfulReading};
+    ghost use Rattle.sw_elem.specs.Answers.{IsRead, IsLogged, ReadsFreely};
+
+    /// Whether reading takes no memory.
+    const FREE: bool;
+
+    ghost FREE: { Bool };
+
+    ghost reads: { Reads };
+
+    ghost spot: { Spots };
+
+    ghost skips: { Skips };
+
+    /// The value of the view's tree in that mode. `Refused` exactly where the tree has none, with its
+    /// reason and the place of the refused node; `Memory` only where `FREE` is false.
+    ///
+    /// The log gains the refusals that were passed over, in reading order, each at its place. After
+    /// `Memory` it has gained the first of them alone, or all.
+    fn deserialize_as(
+        alloc: Global,
+        view: View<'_>,
+        mode: Mode,
+        log: &mut Skipped,
+    ) -> Result<T, DeFail>
+        ensures answer { IsRead T.meaning result (placed (reads mode) (spot mode) (seen view.entry)) }
+        ensures logs { IsLogged result log.old (placed_notes (seen view.entry) (skips mode (tree_of view.entry))) log.new }
+        ensures free { FREE ≡ true → ReadsFreely result };
+
+    ghost lawful: { LawfulReading T.is_meaning reads spot };
+}

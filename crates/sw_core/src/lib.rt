@@ -1,0 +1,19 @@
+//! Adapters: how a value is written as a tree and read from one, and how bytes are recoded by them.
+#![tactic(auto)]
+
+pub mod adapter;
+pub mod as_;
+pub mod display;
+mod each;
+pub mod recode;
+pub mod same;
+pub mod vec;
+
+pub use adapter::{DeserializeAs, SerializeAs};
+pub use as_::As;
+pub use display::DisplayFromStr;
+pub use recode::RecodeError;
+pub use same::Same;
+
+#[cfg(test)]
+mod tests;

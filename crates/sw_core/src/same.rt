@@ -1,0 +1,45 @@
+use crate::adapter::{DeserializeAs, SerializeAs};
+use std::alloc::Global;
+use sw_elem::serialize::{Deserialize, Serialize};
+use sw_tree::fail::{DeFail, SerFail};
+use sw_tree::mode::Mode;
+use sw_tree::node::Node;
+use sw_tree::skipped::Skipped;
+use sw_tree::view::View;
+
+/// A type that writes and reads itself, by itself, as serde_with's `Same`.
+#[derive(PartialEq, Eq, PartialOrd, Ord, Hash)]
+pub struct Same;
+
+impl<T: Serialize> SerializeAs<T> for Same {
+    ghost writes = { T.writes };
+
+    fn serialize_as(alloc: Global, source: &T, mode: Mode) -> Result<Node, SerFail> {
+        source.serialize(alloc, mode)
+    }
+}
+
+impl<T: Deserialize> DeserializeAs<T> for Same {
+    ghost use Rattle.sw_elem.specs.Equations.{no_skips};
+
+    const FREE: bool = T::FREE;
+
+    ghost FREE = { T.FREE };
+
+    ghost reads = { T.reads };
+
+    ghost spot = { T.spot };
+
+    ghost skips = { no_skips };
+
+    fn deserialize_as(
+        alloc: Global,
+        view: View<'_>,
+        mode: Mode,
+        log: &mut Skipped,
+    ) -> Result<T, DeFail> {
+        T::deserialize(alloc, view, mode, log)
+    }
+
+    ghost lawful = { T.lawful };
+}

@@ -1,0 +1,62 @@
+#![tactic(auto, using(crate::proofs::Lists::written))]
+
+use crate::adapter::{DeserializeAs, SerializeAs};
+use crate::each;
+use std::alloc::Global;
+use sw_elem::refuse::refused_at;
+use sw_tree::fail::{DeError, DeFail, SerError, SerFail};
+use sw_tree::meant::Meant;
+use sw_tree::mode::Mode;
+use sw_tree::node::Node;
+use sw_tree::skipped::Skipped;
+use sw_tree::view::View;
+
+/// A list of values, each by `A` in value place.
+///
+/// The first part that isn't written decides. Without one, a list of which a part has 128 levels is
+/// `TooDeep`.
+impl<T: Meant, A: SerializeAs<T>> SerializeAs<Vec<T>> for Vec<A> {
+    ghost use Rattle.sw_core.specs.Lists.{list_writes};
+
+    ghost writes = { list_writes A.writes };
+
+    fn serialize_as(alloc: Global, source: &Vec<T>, mode: Mode) -> Result<Node, SerFail> {
+        let nodes = each::write_each::<T, A>(alloc, source.as_slice(), mode.value())?;
+        match Node::list(nodes) {
+            Ok(node) => Ok(node),
+            Err(_) => Err(SerFail::Unwritable(SerError::TooDeep)),
+        }
+    }
+}
+
+/// A list of items, each by `A` in value place. A node of another kind is refused as `InvalidType` of
+/// that kind; else the first item that is refused decides.
+impl<T: Meant, A: DeserializeAs<T>> DeserializeAs<Vec<T>> for Vec<A> {
+    ghost use Rattle.std.specs.Prelude.{false};
+    ghost use Rattle.sw_core.specs.Lists.{list_reads, list_spot, list_skips};
+    ghost use Rattle.sw_core.specs.ListLaws.{list_lawful};
+
+    const FREE: bool = false;
+
+    ghost FREE = { false };
+
+    ghost reads = { list_reads A.reads };
+
+    ghost spot = { list_spot A.reads A.spot };
+
+    ghost skips = { list_skips A.reads A.skips };
+
+    fn deserialize_as(
+        alloc: Global,
+        view: View<'_>,
+        mode: Mode,
+        log: &mut Skipped,
+    ) -> Result<Vec<T>, DeFail> {
+        match view.items() {
+            None => Err(refused_at(view, DeError::InvalidType(view.kind()))),
+            Some(items) => each::read_each::<T, A>(alloc, items, mode.value(), log),
+        }
+    }
+
+    ghost lawful = { list_lawful T.is_meaning A.reads A.spot A.lawful };
+}
