@@ -1,0 +1,11 @@
+pub mod Faults
+pub mod Change
+pub mod Memory
+pub mod Reading
+pub mod Writing
+pub mod Command
+pub mod Names
+pub mod Outcome
+pub mod Profiles
+pub mod Comes
+pub mod Run
