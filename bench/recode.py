@@ -1,0 +1,148 @@
+#!/usr/bin/env python3
+"""Times the proved program beside `jq -c .`, and RapidJSON where its headers are there.
+
+Usage: bench/recode.py [ROUNDS]
+
+For each profile it recodes a text of up to 1, 2 and 4 MB and prints the best time, the peak memory and ratios. The
+program is the one that `./sw` builds.
+"""
+
+import json
+import os
+import platform
+import random
+import shutil
+import subprocess
+import sys
+import tempfile
+
+TOP = os.path.dirname(os.path.dirname(os.path.abspath(__file__)))
+PROGRAM = os.path.join(TOP, "crates", "sw_tool", "out", "sw_tool")
+LIMIT = 4_194_304
+KIB = 1024
+
+
+def filled(size, choose_part):
+    """A list of parts in at most so many bytes."""
+    parts, length = [], 2
+    while True:
+        part = choose_part()
+        more = len(part.encode()) + 1
+        if length + more > size:
+            return ("[" + ",".join(parts) + "]").encode()
+        parts.append(part)
+        length += more
+
+
+def number_texts(size):
+    """A list of number texts: ["12","4567", ..]."""
+    choose = random.Random(7)
+    return filled(size, lambda: '"%d"' % choose.randrange(10 ** choose.randrange(1, 10)))
+
+
+def mixed_nodes(size):
+    """A list of records of numbers, texts with and without escapes, literals, lists and maps, as compact text."""
+    choose = random.Random(11)
+    words = 'the quick brown fox jumps over a lazy dog while naïve readers sip café crème and "quote" lines a/b π done'.split()
+
+    def text(count):
+        return " ".join(choose.choice(words) for _ in range(count))
+
+    def record():
+        return json.dumps(
+            {
+                "id": choose.randrange(2**53),
+                "name": text(2),
+                "text": text(choose.randrange(6, 25)) + choose.choice(["", "", "", "\n"]),
+                "tags": [choose.choice(words) for _ in range(choose.randrange(4))],
+                "on": choose.choice([True, False, None]),
+                "at": {"x": choose.randrange(-1000, 1000), "y": [choose.randrange(100), choose.randrange(10**6)]},
+                "more": {},
+            },
+            ensure_ascii=False,
+            separators=(",", ":"),
+        )
+
+    return filled(size, record)
+
+
+# Runs one command from a file into a file, in a process small enough not to hide the command's own memory.
+LAUNCHER = """
+import resource, subprocess, sys, time
+source, target, *command = sys.argv[1:]
+with open(source, "rb") as text, open(target, "wb") as output:
+    began = time.perf_counter()
+    subprocess.run(command, stdin=text, stdout=output, check=True)
+    took = time.perf_counter() - began
+print(took, resource.getrusage(resource.RUSAGE_CHILDREN).ru_maxrss)
+"""
+
+
+def run_once(command, source, target):
+    """Seconds and peak memory in bytes of one run."""
+    launched = [sys.executable, "-S", "-c", LAUNCHER, source, target, *command]
+    took, peak = subprocess.run(launched, stdout=subprocess.PIPE, check=True).stdout.split()
+    return float(took), int(peak) * KIB
+
+
+def best(command, text, rounds, folder):
+    """The best time, the peak memory and the output of some runs."""
+    source, target = os.path.join(folder, "input"), os.path.join(folder, "output")
+    with open(source, "wb") as file:
+        file.write(text)
+    runs = [run_once(command, source, target) for _ in range(rounds)]
+    with open(target, "rb") as file:
+        output = file.read()
+    return min(run[0] for run in runs), max(run[1] for run in runs), output
+
+
+def yardstick(folder):
+    """RapidJSON's read and write of a document, compiled where its headers and a compiler are there."""
+    compiler = shutil.which("g++")
+    if compiler is None or not os.path.exists("/usr/include/rapidjson/document.h"):
+        return None
+    built = os.path.join(folder, "yardstick")
+    source = os.path.join(TOP, "bench", "yardstick.cc")
+    subprocess.run([compiler, "-O2", "-o", built, source], check=True)
+    return built
+
+
+def measure(profile, make_text, rounds, peers, folder):
+    times = {}
+    for size in (LIMIT // 4, LIMIT // 2, LIMIT):
+        text = make_text(size)
+        took, peak, output = best([PROGRAM, "recode", profile], text, rounds, folder)
+        assert output == text + b"\n", "the output isn't the compact input"
+        times[size] = took
+        print(
+            "recode %-3s %7d bytes: %.4f s, %6.1f MB/s, peak %5.1f MB = %4.1f times the input"
+            % (profile, len(text), took, len(text) / took / 1e6, peak / 1e6, peak / len(text))
+        )
+    print("  time of 4 MB over time of 1 MB: %.2f" % (times[LIMIT] / times[LIMIT // 4]))
+    for name, command in peers:
+        took, peak, output = best(command, text, rounds, folder)
+        assert output.rstrip(b"\n") == text, name
+        print(
+            "  %-10s %.4f s, peak %.1f MB; recode takes %.3f of its time"
+            % (name, took, peak / 1e6, times[LIMIT] / took)
+        )
+
+
+def main():
+    rounds = int(sys.argv[1]) if len(sys.argv) > 1 else 5
+    if not os.path.exists(PROGRAM):
+        sys.exit("build the program first: printf '[]' | ./sw recode ids")
+    print("machine: %s, %d processors" % (platform.machine(), os.cpu_count()))
+    with tempfile.TemporaryDirectory() as folder:
+        peers = []
+        jq = shutil.which("jq")
+        if jq is not None:
+            peers.append(("jq -c .", [jq, "-c", "."]))
+        rapid = yardstick(folder)
+        if rapid is not None:
+            peers.append(("RapidJSON", [rapid]))
+        for profile, make_text in (("ids", number_texts), ("any", mixed_nodes)):
+            measure(profile, make_text, rounds, peers, folder)
+
+
+main()
