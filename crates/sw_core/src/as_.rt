@@ -68,6 +68,7 @@ impl<A> As<A> {
         let mode = Mode::plain(W::ID);
         let doc = W::read_tree(alloc, bytes)?;
         let value = A::deserialize_as(alloc, doc.view(), mode, log)?;
+        drop(doc);
         let written = A::serialize_as(alloc, &value, mode)?;
         let text = W::print(alloc, &written)?;
         Ok((value, text))

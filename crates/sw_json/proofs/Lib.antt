@@ -7,7 +7,6 @@ pub mod Lexemes
 pub mod Structure
 pub mod Completion
 pub mod Standing
-pub mod Values
 pub mod Stands
 pub mod Texts
 pub mod Pushing

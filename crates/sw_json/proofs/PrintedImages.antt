@@ -8,7 +8,8 @@ use Rattle.sw_tree.specs.Tree.{Tree, null, truth, int, text, bytes, list, map, T
 use Rattle.sw_tree.specs.Image.{bool_text, numbers, key_image, next_tree, next_entry, value_image, trees_image, entries_image, image}
 use Rattle.sw_tree.specs.declared.mode.WireKind.TheVariants.{Json}
 use Rattle.sw_tree.specs.declared.mode.Place.TheVariants.{Value}
-use Rattle.sw_json.specs.Imaged.{IsWithin, IsLawful, AreLawful, AreLawfulEntries, IsKey, IsImaged, AreImaged, AreImagedEntries}
+use Rattle.sw_tree.specs.NumberLaws.{IsInRange}
+use Rattle.sw_json.specs.Imaged.{IsLawful, AreLawful, AreLawfulEntries, IsKey, IsImaged, AreImaged, AreImagedEntries}
 use Rattle.sw_json.specs.Spelled.{spelled}
 use Rattle.sw_json.specs.Text.{text_of, json_text}
 use Rattle.sw_json.proofs.Printed.{printed_spelled}
@@ -22,7 +23,7 @@ minus_utf8 : IsUtf8 (codes "-")
 unfolding lib.Utf8.encode
 minus_utf8 = (codes "-", (refl, refl))
 
-signed_utf8 : (n : ℤ) → IsWithin n → IsUtf8 (signed_decimal n)
+signed_utf8 : (n : ℤ) → IsInRange n → IsUtf8 (signed_decimal n)
 signed_utf8 (pos n) h = decimal_utf8 n (omega (arith, h))
 signed_utf8 (negsuc n) h = IsUtf8-append (codes "-") (decimal (suc n)) minus_utf8 (decimal_utf8 (suc n) (omega (arith, h)))
 

@@ -7,8 +7,9 @@ use Rattle.std.specs.Fmt.{signed_decimal}
 use Rattle.std.specs.List.{list_all}
 use Rattle.sw_json.specs.Bytes.{is_digit, is_leading}
 use Rattle.sw_json.specs.Grammar.{IsInt, IsNumber}
-use Rattle.sw_json.specs.Number.{value_from, value_of, int_of, is_negative, is_whole}
-use Rattle.sw_json.specs.Imaged.{IsWithin}
+use Rattle.sw_tree.specs.Number.{value_from, value_of, int_of}
+use Rattle.sw_json.specs.Number.{is_whole}
+use Rattle.sw_tree.specs.NumberLaws.{IsInRange}
 use Rattle.sw_json.proofs.Fronts.{and_left, all_append}
 
 -- digits without a zero in front that show this number
@@ -59,10 +60,10 @@ more_digits n ds h s =
 decimal_shows : (n : ℕ) → n < 2 ^ 129 → Shows n (decimal n)
 decimal_shows n h = decimal_by_steps_wide Shows one_digit more_digits n (omega (arith, h))
 
-pos_shows : (n : ℕ) → IsWithin (pos n) → Shows n (decimal n)
+pos_shows : (n : ℕ) → IsInRange (pos n) → Shows n (decimal n)
 pos_shows n h = decimal_shows n (omega (arith, h))
 
-neg_shows : (n : ℕ) → IsWithin (negsuc n) → Shows (suc n) (decimal (suc n))
+neg_shows : (n : ℕ) → IsInRange (negsuc n) → Shows (suc n) (decimal (suc n))
 neg_shows n h = decimal_shows (suc n) (omega (arith, h))
 
 number_of : (g s : List ℕ) → (g ≡ []) ⊎ (g ≡ codes "-") → IsInt s → IsNumber (g ++ s)
@@ -79,7 +80,7 @@ number_of g s h i = record {
 }
 
 -- A number within range is printed as the grammar spells a number.
-pub decimal_number : (n : ℤ) → IsWithin n → IsNumber (signed_decimal n)
+pub decimal_number : (n : ℤ) → IsInRange n → IsNumber (signed_decimal n)
 decimal_number (pos n) h = number_of [] (decimal n) (inl refl) (pos_shows n h).is_int
 decimal_number (negsuc n) h = number_of (codes "-") (decimal (suc n)) (inr refl) (neg_shows n h).is_int
 
@@ -89,14 +90,14 @@ pos_whole n (d ∷ ds) s h =
     let v : ltb n (2 ^ 128) ≡ true = grind (arith, nat_tests, h) in
     rw (isnt_minus d (and_left (is_digit d) (list_all is_digit ds) s.digits)) (rw (s.digits, s.value_is) v)
 
-neg_whole : (n : ℕ) (s : List ℕ) → Shows (suc n) s → n < 2 ^ 127 → is_negative s ≡ true
+neg_whole : (n : ℕ) (s : List ℕ) → Shows (suc n) s → n < 2 ^ 127 → is_whole (45 ∷ s) ≡ true
 neg_whole n s w h =
     let v : leb (suc n) (2 ^ 127) ≡ true = grind (arith, nat_tests, h) in
     let z : ltb 0 (suc n) ≡ true = grind (arith, nat_tests) in
     rw (w.digits, w.value_is) (rw (z, v) refl)
 
 -- It is no fault.
-pub decimal_whole : (n : ℤ) → IsWithin n → is_whole (signed_decimal n) ≡ true
+pub decimal_whole : (n : ℤ) → IsInRange n → is_whole (signed_decimal n) ≡ true
 decimal_whole (pos n) h = pos_whole n (decimal n) (pos_shows n h) h
 decimal_whole (negsuc n) h = neg_whole n (decimal (suc n)) (neg_shows n h) h
 
@@ -105,6 +106,6 @@ pos_value n [] s = absurd s.is_int
 pos_value n (d ∷ ds) s = rw (isnt_minus d (and_left (is_digit d) (list_all is_digit ds) s.digits)) (ap pos s.value_is)
 
 -- Its value is the number.
-pub decimal_value : (n : ℤ) → IsWithin n → int_of (signed_decimal n) ≡ n
+pub decimal_value : (n : ℤ) → IsInRange n → int_of (signed_decimal n) ≡ n
 decimal_value (pos n) h = pos_value n (decimal n) (pos_shows n h)
 decimal_value (negsuc n) h = ap (λ v. neg_ℤ (pos v)) (neg_shows n h).value_is

@@ -6,7 +6,8 @@ use Rattle.sw_tree.specs.Tree as tree
 use Rattle.sw_tree.specs.Builder.{Built, added, longer, opened, closed, CanClose}
 use Rattle.sw_json.specs.Token.{Quote, Token}
 use Rattle.sw_json.specs.Quoted.{has_escape}
-use Rattle.sw_json.specs.Number.{is_whole, int_of}
+use Rattle.sw_tree.specs.Number.{int_of}
+use Rattle.sw_json.specs.Number.{is_whole}
 use Rattle.sw_json.specs.declared.fault.Fault.{Fault}
 use Rattle.sw_json.specs.declared.fault.Fault.TheVariants.{NotWhole, TooDeep}
 

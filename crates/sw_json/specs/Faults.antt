@@ -4,7 +4,8 @@ use Rattle.sw_tree.specs.Tree.{Tree, trees, entries}
 use Rattle.sw_tree.specs.Tree as tree
 use Rattle.sw_json.specs.Raw.{Raw, RawItems, no_items, item, RawEntries, no_entries, entry}
 use Rattle.sw_json.specs.Raw as raw
-use Rattle.sw_json.specs.Number.{is_whole, int_of}
+use Rattle.sw_tree.specs.Number.{int_of}
+use Rattle.sw_json.specs.Number.{is_whole}
 use Rattle.sw_json.specs.declared.fault.Fault.{Fault}
 use Rattle.sw_json.specs.declared.fault.Fault.TheVariants.{NotWhole, TooDeep}
 

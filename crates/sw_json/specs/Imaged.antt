@@ -1,20 +1,16 @@
 -- Which trees are lawful, and which of them are images in JSON: no byte string is among those, and each key is a text.
-use Rattle.std.specs.Prelude.{◌<◌, ◌^◌, ℤ, pos, negsuc}
+use Rattle.std.specs.Prelude.{◌<◌}
 use Rattle.std.specs.Str.{IsUtf8}
+use Rattle.sw_tree.specs.NumberLaws.{IsInRange}
 use Rattle.sw_tree.specs.Steps.{Each}
 use Rattle.sw_tree.specs.Tree.{Tree, null, truth, int, text, bytes, list, map, Trees, no_trees, tree, Entries, no_entries, entry}
-
--- a number from -2^127 to 2^128 - 1
-abbrev pub IsWithin : ℤ → Type 0
-IsWithin (pos n) = n < 2 ^ 128
-IsWithin (negsuc n) = n < 2 ^ 127
 
 -- Numbers are within range, texts are UTF-8, the bytes of byte strings are below 256, and so it is in lists and maps.
 abbrev mutual
   pub IsLawful : Tree → Type 0
   IsLawful null = Unit {0}
   IsLawful (truth b) = Unit {0}
-  IsLawful (int n) = IsWithin n
+  IsLawful (int n) = IsInRange n
   IsLawful (text s) = IsUtf8 s
   IsLawful (bytes s) = Each (λ b. b < 256) s
   IsLawful (list ts) = AreLawful ts
@@ -38,7 +34,7 @@ abbrev mutual
   pub IsImaged : Tree → Type 0
   IsImaged null = Unit {0}
   IsImaged (truth b) = Unit {0}
-  IsImaged (int n) = IsWithin n
+  IsImaged (int n) = IsInRange n
   IsImaged (text s) = IsUtf8 s
   IsImaged (bytes s) = ⊥
   IsImaged (list ts) = AreImaged ts
