@@ -9,12 +9,16 @@ use Rattle.sw_tree.proofs.GrowLemmas.{grow, more}
 use Rattle.std.specs.Prelude.{is_some}
 use Rattle.sw_tree.specs.Tree as tree
 use Rattle.sw_tree.specs.Tree.{Tree, depth, trees, trees_depth, entries, entries_depth, turns, trees_depth-push}
+use Rattle.sw_tree.specs.NumberLaws.{IsInRange}
+use Rattle.sw_tree.specs.Steps.{Each}
+use Rattle.sw_tree.specs.Proper.{IsProper, AreProper}
+use Rattle.sw_tree.specs.ProperLaws.{proper-turns}
 use Rattle.sw_tree.specs.declared.cell.Cell.{Cell}
 use Rattle.sw_tree.specs.declared.cell.Cell.TheVariants.{Null, Bool as Truth, Small, Wide, Text, Copied, Bytes, CopiedBytes, List as Items, Map}
 use Rattle.sw_tree.specs.declared.builder.Open.{Open}
 use Rattle.sw_tree.specs.Cells.{Store, forest, arity, below, tree_at, Formed, IsFine, IsPart, first}
 use Rattle.sw_tree.specs.Builder.{Built, added, longer, opened, closed, built_tree, finished, IsComplete, meant, Segment, Stacked, open_of, done_of, root_of, IsFirst}
-use Rattle.sw_tree.proofs.CellLemmas.{Formed-drop}
+use Rattle.sw_tree.proofs.CellLemmas.{Formed-drop, forest_proper}
 
 tree_at-append : (s : Store) (c : Cell) (f g : List Tree) → arity c ≤ length f → tree_at s c (f ++ g) ≡ tree_at s c f
 tree_at-append s Null f g h = refl
@@ -45,7 +49,8 @@ Formed-append s (c ∷ xs) ys h g =
     let enough : arity c ≤ length (forest s (xs ++ ys)) = rw (joined, length-append (forest s xs) (forest s ys)) (omega (arith, h.0.enough)) in
     let inside : below c ≤ length (xs ++ ys) = rw (length-append xs ys) (omega (arith, h.0.inside)) in
     let shallow : depth (tree_at s c (forest s (xs ++ ys))) ≤ 128 = rw (joined, tree_at-append s c (forest s xs) (forest s ys) h.0.enough) h.0.shallow in
-    (record { fine = h.0.fine; enough = enough; inside = inside; shallow = shallow; skips = skips }, Formed-append s xs ys h.1 g)
+    let proper : IsProper (tree_at s c (forest s (xs ++ ys))) = rw (joined, tree_at-append s c (forest s xs) (forest s ys) h.0.enough) h.0.proper in
+    (record { fine = h.0.fine; enough = enough; inside = inside; shallow = shallow; proper = proper; skips = skips }, Formed-append s xs ys h.1 g)
 
 -- one more tree behind the cells
 pub record Grown (s : Store) (r : List Open) (cells seg : List Cell) (kids : ℕ) (t : Tree) : Type 0 where
@@ -98,18 +103,18 @@ frames_len s [] cells = refl
 frames_len s (o ∷ outer) cells = omega (arith, frames_len s outer (take o.at cells))
 
 -- a cell with nothing below it
-pub leaf : (s : Store) (c : Cell) → IsFine s c → arity c ≡ 0 → below c ≡ 0 → depth (tree_at s c []) ≤ 128 → Formed s (c ∷ [])
+pub leaf : (s : Store) (c : Cell) → IsFine s c → arity c ≡ 0 → below c ≡ 0 → depth (tree_at s c []) ≤ 128 → IsProper (tree_at s c []) → Formed s (c ∷ [])
 unfolding forest
-leaf s c fine none low shallow = (record { fine = fine; enough = omega arith; inside = omega arith; shallow = shallow; skips = rw (none, low) refl }, tt)
+leaf s c fine none low shallow proper = (record { fine = fine; enough = omega arith; inside = omega arith; shallow = shallow; proper = proper; skips = rw (none, low) refl }, tt)
 
 pub leaf_tree : (s : Store) (c : Cell) → arity c ≡ 0 → forest s (c ∷ []) ≡ tree_at s c [] ∷ []
 unfolding forest
 leaf_tree s c none = rw none refl
 
-pub with_leaf : (s : Store) (r : List Open) (cells : List Cell) (kids : ℕ) (c : Cell) → Stacked s r cells kids → root_of (done_of s r cells) ≡ None → IsFine s c → arity c ≡ 0 → below c ≡ 0 → depth (tree_at s c []) + length r ≤ 128 →
+pub with_leaf : (s : Store) (r : List Open) (cells : List Cell) (kids : ℕ) (c : Cell) → Stacked s r cells kids → root_of (done_of s r cells) ≡ None → IsFine s c → arity c ≡ 0 → below c ≡ 0 → depth (tree_at s c []) + length r ≤ 128 → IsProper (tree_at s c []) →
     Grown s r cells (c ∷ []) kids (tree_at s c [])
-with_leaf s r cells kids c h rootless fine none low shallow =
-    grown s r cells (c ∷ []) kids (tree_at s c []) h rootless (leaf s c fine none low (omega (arith, shallow))) (leaf_tree s c none) shallow
+with_leaf s r cells kids c h rootless fine none low shallow proper =
+    grown s r cells (c ∷ []) kids (tree_at s c []) h rootless (leaf s c fine none low (omega (arith, shallow)) proper) (leaf_tree s c none) shallow
 
 -- a list or map is opened behind the cells
 pub record Opening (s : Store) (r : List Open) (cells : List Cell) (c : Cell) (o : Open) : Type 0 where
@@ -154,29 +159,33 @@ built_depth : (b : Bool) (ts : List Tree) → depth (built_tree b ts) ≤ trees_
 built_depth false ts = omega arith
 built_depth true ts = omega (arith, turns_depth ts)
 
+built_proper : (b : Bool) (ts : List Tree) → AreProper (trees ts) → IsProper (built_tree b ts)
+built_proper false ts h = h
+built_proper true ts h = proper-turns ts h
+
 -- a cell over all the trees behind it
 pub record Over (s : Store) (c : Cell) (cs : List Cell) (t : Tree) : Type 0 where
   pub formed : Formed s (c ∷ cs)
   pub one : forest s (c ∷ cs) ≡ t ∷ []
 
-over : (s : Store) (c : Cell) (cs : List Cell) (t : Tree) → Formed s cs → IsFine s c → arity c ≡ length (forest s cs) → below c ≡ length cs → tree_at s c (forest s cs) ≡ t → depth t ≤ 128 → Over s c cs t
+over : (s : Store) (c : Cell) (cs : List Cell) (t : Tree) → Formed s cs → IsFine s c → arity c ≡ length (forest s cs) → below c ≡ length cs → tree_at s c (forest s cs) ≡ t → depth t ≤ 128 → IsProper t → Over s c cs t
 unfolding forest
-over s c cs t h fine all low is shallow =
+over s c cs t h fine all low is shallow proper =
     let none : drop (below c) cs ≡ [] = drop_of_length-le cs (omega (arith, low)) in
     let rest : drop (arity c) (forest s cs) ≡ [] = drop_of_length-le (forest s cs) (omega (arith, all)) in
     record {
-      formed = (record { fine = fine; enough = omega (arith, all); inside = omega (arith, low); shallow = rw is shallow; skips = rw (none, rest) refl }, h);
+      formed = (record { fine = fine; enough = omega (arith, all); inside = omega (arith, low); shallow = rw is shallow; proper = rw is proper; skips = rw (none, rest) refl }, h);
       one = rw (rest, is) refl;
     }
 
 pub finished_over : (b : Bool) (s : Store) (d : ℕ) (cs : List Cell) (kids low : ℕ) → Segment s (d + 1) cs kids → low ≡ length cs → IsComplete b (forest s cs) → Over s (finished b kids low) cs (built_tree b (forest s cs))
 finished_over false s d cs kids low h e full =
     let all : take kids (forest s cs) ≡ forest s cs = rw (h.counted, take-length) refl in
-    over s _ cs _ h.formed tt h.counted e (rw all refl) (omega (arith, built_depth false (forest s cs), h.shallow))
+    over s _ cs _ h.formed tt h.counted e (rw all refl) (omega (arith, built_depth false (forest s cs), h.shallow)) (built_proper false (forest s cs) (forest_proper s cs h.formed))
 finished_over true s d cs kids low h e full =
     let twice : kids / 2 + kids / 2 ≡ length (forest s cs) = omega (arith, h.counted, full) in
     let all : take (kids / 2 + kids / 2) (forest s cs) ≡ forest s cs = rw (twice, take-length) refl in
-    over s _ cs _ h.formed tt twice e (rw all refl) (omega (arith, built_depth true (forest s cs), h.shallow))
+    over s _ cs _ h.formed tt twice e (rw all refl) (omega (arith, built_depth true (forest s cs), h.shallow)) (built_proper true (forest s cs) (forest_proper s cs h.formed))
 
 -- the innermost is closed
 pub record Closing (s : Store) (r : List Open) (o : Open) (cells : List Cell) (kids low : ℕ) : Type 0 where
@@ -226,10 +235,10 @@ pub record Kept (s t : Store) (r : List Open) (cells : List Cell) (kids n : ℕ)
   pub means : meant t r (cells ++ c ∷ []) ≡ added (longer (meant s r cells) n) x
 
 kept : (s : Store) (m : List ℕ) (w : List ℤ) (r : List Open) (cells : List Cell) (kids : ℕ) (c : Cell) (x : Tree) → Stacked s r cells kids → root_of (done_of s r cells) ≡ None →
-    IsFine (grow s m w) c → arity c ≡ 0 → below c ≡ 0 → tree_at (grow s m w) c [] ≡ x → depth x + length r ≤ 128 → Kept s (grow s m w) r cells kids (length m) c x
-kept s m w r cells kids c x h none fine flat low is shallow =
+    IsFine (grow s m w) c → arity c ≡ 0 → below c ≡ 0 → tree_at (grow s m w) c [] ≡ x → depth x + length r ≤ 128 → IsProper x → Kept s (grow s m w) r cells kids (length m) c x
+kept s m w r cells kids c x h none fine flat low is shallow proper =
     let g = more s m w r cells kids h in
-    let l = with_leaf (grow s m w) r cells kids c g.stacked (ap root_of g.done ∙ none) fine flat low (rw is shallow) in
+    let l = with_leaf (grow s m w) r cells kids c g.stacked (ap root_of g.done ∙ none) fine flat low (rw is shallow) (rw is proper) in
     let same : meant (grow s m w) r cells ≡ longer (meant s r cells) (length m) = rw (g.frames, g.done, length-append s.side m) refl in
     record { stacked = l.stacked; means = l.means ∙ ap (λ (b : Built). added b (tree_at (grow s m w) c [])) same ∙ ap (added (longer (meant s r cells) (length m))) is }
 
@@ -244,27 +253,27 @@ kept_text s m r cells kids start end a b utf8 h none =
     let whole = range_whole s.side m start end a b in
     let lies : IsPart (s.side ++ m) (record { start = start; end = end }) = record { ordered = rw (a, b, length-append s.side m) (omega arith); inside = omega arith } in
     subst (λ (ws : List ℤ). Kept s (record { input = s.input; side = s.side ++ m; wides = ws }) r cells kids (length m) (Copied (record { start = start; end = end })) (tree.text m)) (append-nil s.wides)
-    (kept s m [] r cells kids (Copied (record { start = start; end = end })) (tree.text m) h none (record { lies = lies; utf8 = subst IsUtf8 (sym whole) utf8 }) refl refl (ap tree.text whole) (omega (arith, opens_le s r cells kids h)))
+    (kept s m [] r cells kids (Copied (record { start = start; end = end })) (tree.text m) h none (record { lies = lies; utf8 = subst IsUtf8 (sym whole) utf8 }) refl refl (ap tree.text whole) (omega (arith, opens_le s r cells kids h)) utf8)
 
-pub kept_bytes : (s : Store) (m : List ℕ) (r : List Open) (cells : List Cell) (kids start end : ℕ) → start ≡ length s.side → end ≡ length (s.side ++ m) → 1 + length r ≤ 128 → Stacked s r cells kids → root_of (done_of s r cells) ≡ None →
+pub kept_bytes : (s : Store) (m : List ℕ) (r : List Open) (cells : List Cell) (kids start end : ℕ) → start ≡ length s.side → end ≡ length (s.side ++ m) → 1 + length r ≤ 128 → Each (λ b. b < 256) m → Stacked s r cells kids → root_of (done_of s r cells) ≡ None →
     Kept s (record { input = s.input; side = s.side ++ m; wides = s.wides }) r cells kids (length m) (CopiedBytes (record { start = start; end = end })) (tree.bytes m)
-kept_bytes s m r cells kids start end a b room h none =
+kept_bytes s m r cells kids start end a b room small h none =
     let whole = range_whole s.side m start end a b in
     let lies : IsPart (s.side ++ m) (record { start = start; end = end }) = record { ordered = rw (a, b, length-append s.side m) (omega arith); inside = omega arith } in
     subst (λ (ws : List ℤ). Kept s (record { input = s.input; side = s.side ++ m; wides = ws }) r cells kids (length m) (CopiedBytes (record { start = start; end = end })) (tree.bytes m)) (append-nil s.wides)
-    (kept s m [] r cells kids (CopiedBytes (record { start = start; end = end })) (tree.bytes m) h none lies refl refl (ap tree.bytes whole) room)
+    (kept s m [] r cells kids (CopiedBytes (record { start = start; end = end })) (tree.bytes m) h none lies refl refl (ap tree.bytes whole) room small)
 
 last_wide : (ws : List ℤ) (z d : ℤ) → get_or (ws ++ z ∷ []) (length ws) d ≡ z
 last_wide [] z d = refl
 last_wide (w ∷ ws) z d = last_wide ws z d
 
-pub kept_wide : (s : Store) (z : ℤ) (r : List Open) (cells : List Cell) (kids index : ℕ) → index ≡ length s.wides → Stacked s r cells kids → root_of (done_of s r cells) ≡ None →
+pub kept_wide : (s : Store) (z : ℤ) (r : List Open) (cells : List Cell) (kids index : ℕ) → index ≡ length s.wides → IsInRange z → Stacked s r cells kids → root_of (done_of s r cells) ≡ None →
     Kept s (record { input = s.input; side = s.side; wides = s.wides ++ z ∷ [] }) r cells kids 0 (Wide index) (tree.int z)
-kept_wide s z r cells kids index a h none =
+kept_wide s z r cells kids index a range h none =
     let all : length (s.wides ++ z ∷ []) ≡ length s.wides + 1 = length-append s.wides (z ∷ []) in
     let is : tree_at (grow s [] (z ∷ [])) (Wide index) [] ≡ tree.int z = rw a (ap tree.int (last_wide s.wides z (pos 0))) in
     subst (λ (side : List ℕ). Kept s (record { input = s.input; side = side; wides = s.wides ++ z ∷ [] }) r cells kids 0 (Wide index) (tree.int z)) (append-nil s.side)
-    (kept s [] (z ∷ []) r cells kids (Wide index) (tree.int z) h none (omega (arith, all, a)) refl refl is (omega (arith, opens_le s r cells kids h)))
+    (kept s [] (z ∷ []) r cells kids (Wide index) (tree.int z) h none (omega (arith, all, a)) refl refl is (omega (arith, opens_le s r cells kids h)) range)
 
 pub longer-none : (b : Built) → longer b 0 ≡ b
 longer-none b = ap (λ (n : ℕ). record { input = b.input; side_len = n; frames = b.frames; root = b.root }) (omega arith)

@@ -5,6 +5,7 @@ use Rattle.std.specs.Prelude.{slice_range}
 use Rattle.std.specs.Str.{IsUtf8}
 use Rattle.sw_tree.specs.Tree as tree
 use Rattle.sw_tree.specs.Tree.{Tree, depth, trees, trees_depth}
+use Rattle.sw_tree.specs.Proper.{IsProper}
 use Rattle.sw_tree.specs.declared.cell.Cell.{Cell}
 use Rattle.sw_tree.specs.declared.cell.Span.{Span}
 use Rattle.sw_tree.specs.declared.cell.Cell.TheVariants.{Null, Bool, Small, Wide, Text, Copied, Bytes, CopiedBytes, List as Items, Map}
@@ -74,7 +75,8 @@ Formed-more s m w (c ∷ cs) h =
     let enough : arity c ≤ length (forest (grow s m w) cs) = rw e h.0.enough in
     let skips : forest (grow s m w) (drop (below c) cs) ≡ drop (arity c) (forest (grow s m w) cs) = rw (e, d) h.0.skips in
     let shallow : depth (tree_at (grow s m w) c (forest (grow s m w) cs)) ≤ 128 = rw (e, tree_at-more s m w c (forest s cs) h.0.fine) h.0.shallow in
-    (record { fine = fine-more s m w c h.0.fine; enough = enough; inside = h.0.inside; shallow = shallow; skips = skips }, Formed-more s m w cs h.1)
+    let proper : IsProper (tree_at (grow s m w) c (forest (grow s m w) cs)) = rw (e, tree_at-more s m w c (forest s cs) h.0.fine) h.0.proper in
+    (record { fine = fine-more s m w c h.0.fine; enough = enough; inside = h.0.inside; shallow = shallow; proper = proper; skips = skips }, Formed-more s m w cs h.1)
 
 Segment-more : (s : Store) (m : List ℕ) (w : List ℤ) (d : ℕ) (cells : List Cell) (kids : ℕ) → Segment s d cells kids → Segment (grow s m w) d cells kids
 Segment-more s m w d cells kids h =

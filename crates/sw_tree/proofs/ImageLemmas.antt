@@ -1,11 +1,11 @@
 -- Images, and their levels.
-use Rattle.std.proofs.Common.{◌≡◌, ℕ, ◌≤◌, pos, List, [], ◌∷◌, ◌++◌, drop, length, get_or, Option, Some, None, refl, ap, sym, subst, ◌∙◌, arith, add-one, drop-cons, suc, ◌+◌, ◌<◌, Result, Ok, Err}
-use Rattle.std.proofs.Math.ListN.{drop_of_length-le}
+use Rattle.std.proofs.Common.{◌≡◌, ℕ, ◌≤◌, pos, List, [], ◌∷◌, ◌++◌, Option, Some, None, refl, ap, sym, subst, ◌∙◌, arith, Result, Ok, Err}
 use Rattle.std.specs.Prelude.{option_map, IsErrAnd, IfOk, map as list_map}
 use Rattle.sw_tree.specs.Imaged.{MeansImage, IsImaged}
 use Rattle.sw_tree.specs.declared.fail.PrintError.{PrintError}
 use Rattle.sw_tree.specs.declared.fail.PrintError.TheVariants as print
 use Rattle.sw_tree.specs.Tree.{Tree, Trees, Entries, null, truth, int, text, bytes, list, map, no_trees, tree, no_entries, entry, trees, entries, depth, trees_depth, entries_depth, items_at, pairs_at, bytes_at}
+use Rattle.sw_tree.specs.Seen.{Seen, trees_of, pairs_of}
 use Rattle.sw_tree.specs.Image.{numbers, key_image, value_image, trees_image, entries_image, next_tree, next_entry}
 
 -- what is no list, no map and no byte string is its own image
@@ -134,43 +134,46 @@ onto_entries-all (e ∷ es) = ap (next_entry (Some e.0) (Some e.1)) (onto_entrie
 
 -- ---- a step of a loop, and its end
 
-module _ (items : List Tree) (i : ℕ) (got : List Tree) (r : Option Trees) (so_far : r ≡ onto got (trees_image (trees (drop i items)))) where
-  module _ (t : Tree) (lt : i < length items) (is : t ≡ get_or items i t) where
-    next_image : r ≡ onto got (next_tree (value_image t) (trees_image (trees (drop (i + 1) items))))
-    next_image =
-        let behind : drop i items ≡ t ∷ drop (i + 1) items = rw (add-one) (drop-cons items i t lt ∙ ap (λ u. u ∷ drop (suc i) items) (sym is)) in
-        so_far ∙ ap (λ ts. onto got (trees_image (trees ts))) behind
+module _ (whole : Option Trees) (got : List Tree) (before : List Seen) (so_far : whole ≡ onto got (trees_image (trees (trees_of before)))) where
+  module _ (s : Seen) (rest : List Seen) (step : before ≡ s ∷ rest) where
+    next_image : whole ≡ onto got (next_tree (value_image s.tree) (trees_image (trees (trees_of rest))))
+    next_image = so_far ∙ ap (λ ss. onto got (trees_image (trees (trees_of ss)))) step
 
-    pub image_on : (u : Tree) → value_image t ≡ Some u → r ≡ onto (got ++ u ∷ []) (trees_image (trees (drop (i + 1) items)))
-    image_on u h = next_image ∙ ap (λ o. onto got (next_tree o (trees_image (trees (drop (i + 1) items))))) h ∙ sym (onto-push got u (trees_image (trees (drop (i + 1) items))))
+    pub image_on : (u : Tree) → value_image s.tree ≡ Some u → whole ≡ onto (got ++ u ∷ []) (trees_image (trees (trees_of rest)))
+    image_on u h = next_image ∙ ap (λ o. onto got (next_tree o (trees_image (trees (trees_of rest))))) h ∙ sym (onto-push got u (trees_image (trees (trees_of rest))))
 
-    pub image_lacks : value_image t ≡ None → r ≡ None
-    image_lacks h = next_image ∙ ap (λ o. onto got (next_tree o (trees_image (trees (drop (i + 1) items))))) h ∙ onto-none got
+    pub image_lacks : value_image s.tree ≡ None → whole ≡ None
+    image_lacks h = next_image ∙ ap (λ o. onto got (next_tree o (trees_image (trees (trees_of rest))))) h ∙ onto-none got
 
-  pub images_all : length items ≤ i → r ≡ Some (trees got)
-  images_all le = so_far ∙ ap (λ ts. onto got (trees_image (trees ts))) (drop_of_length-le items le) ∙ onto-all got
+  pub images_all : before ≡ [] → whole ≡ Some (trees got)
+  images_all e = so_far ∙ ap (λ ss. onto got (trees_image (trees (trees_of ss)))) e ∙ onto-all got
 
-module _ (es : List (Tree × Tree)) (i : ℕ) (got : List (Tree × Tree)) (r : Option Entries) (so_far : r ≡ onto_entries got (entries_image (entries (drop i es)))) where
-  module _ (e : Tree × Tree) (lt : i < length es) (is : e ≡ get_or es i e) where
-    next_entry_image : r ≡ onto_entries got (next_entry (key_image e.0) (value_image e.1) (entries_image (entries (drop (i + 1) es))))
-    next_entry_image =
-        let behind : drop i es ≡ e ∷ drop (i + 1) es = rw (add-one) (drop-cons es i e lt ∙ ap (λ u. u ∷ drop (suc i) es) (sym is)) in
-        so_far ∙ ap (λ ds. onto_entries got (entries_image (entries ds))) behind
+module _ (whole : Option Entries) (got : List (Tree × Tree)) (before : List (Seen × Seen)) (so_far : whole ≡ onto_entries got (entries_image (entries (pairs_of before)))) where
+  module _ (e : Seen × Seen) (rest : List (Seen × Seen)) (step : before ≡ e ∷ rest) where
+    next_entry_image : whole ≡ onto_entries got (next_entry (key_image e.0.tree) (value_image e.1.tree) (entries_image (entries (pairs_of rest))))
+    next_entry_image = so_far ∙ ap (λ es. onto_entries got (entries_image (entries (pairs_of es)))) step
 
-    pub entry_image_on : (k v : Tree) → key_image e.0 ≡ Some k → value_image e.1 ≡ Some v → r ≡ onto_entries (got ++ (k, v) ∷ []) (entries_image (entries (drop (i + 1) es)))
+    pub entry_image_on : (k v : Tree) → key_image e.0.tree ≡ Some k → value_image e.1.tree ≡ Some v → whole ≡ onto_entries (got ++ (k, v) ∷ []) (entries_image (entries (pairs_of rest)))
     entry_image_on k v h g =
         next_entry_image
-        ∙ (λ j. onto_entries got (next_entry (h j) (g j) (entries_image (entries (drop (i + 1) es)))))
-        ∙ sym (onto_entries-push got (k, v) (entries_image (entries (drop (i + 1) es))))
+        ∙ (λ j. onto_entries got (next_entry (h j) (g j) (entries_image (entries (pairs_of rest)))))
+        ∙ sym (onto_entries-push got (k, v) (entries_image (entries (pairs_of rest))))
 
-    pub key_image_lacks : key_image e.0 ≡ None → r ≡ None
-    key_image_lacks h = next_entry_image ∙ ap (λ o. onto_entries got (next_entry o (value_image e.1) (entries_image (entries (drop (i + 1) es))))) h ∙ onto_entries-none got
+    pub key_image_lacks : key_image e.0.tree ≡ None → whole ≡ None
+    key_image_lacks h = next_entry_image ∙ ap (λ o. onto_entries got (next_entry o (value_image e.1.tree) (entries_image (entries (pairs_of rest))))) h ∙ onto_entries-none got
 
-    pub value_image_lacks : (k : Tree) → key_image e.0 ≡ Some k → value_image e.1 ≡ None → r ≡ None
-    value_image_lacks k h g = next_entry_image ∙ (λ j. onto_entries got (next_entry (h j) (g j) (entries_image (entries (drop (i + 1) es))))) ∙ onto_entries-none got
+    pub value_image_lacks : (k : Tree) → key_image e.0.tree ≡ Some k → value_image e.1.tree ≡ None → whole ≡ None
+    value_image_lacks k h g = next_entry_image ∙ (λ j. onto_entries got (next_entry (h j) (g j) (entries_image (entries (pairs_of rest))))) ∙ onto_entries-none got
 
-  pub entry_images_all : length es ≤ i → r ≡ Some (entries got)
-  entry_images_all le = so_far ∙ ap (λ ds. onto_entries got (entries_image (entries ds))) (drop_of_length-le es le) ∙ onto_entries-all got
+  pub entry_images_all : before ≡ [] → whole ≡ Some (entries got)
+  entry_images_all h = so_far ∙ ap (λ es. onto_entries got (entries_image (entries (pairs_of es)))) h ∙ onto_entries-all got
+
+-- what is behind the first has no more levels than all
+pub items_shallow : (before : List Seen) (s : Seen) (rest : List Seen) → before ≡ s ∷ rest → trees_depth (trees (trees_of rest)) ≤ trees_depth (trees (trees_of before))
+items_shallow before s rest e = omega (arith, ap (λ ss. trees_depth (trees (trees_of ss))) e)
+
+pub entries_shallow : (before : List (Seen × Seen)) (e : Seen × Seen) (rest : List (Seen × Seen)) → before ≡ e ∷ rest → entries_depth (entries (pairs_of rest)) ≤ entries_depth (entries (pairs_of before))
+entries_shallow before e rest h = omega (arith, ap (λ es. entries_depth (entries (pairs_of es))) h)
 
 -- ---- the refusal of a part
 

@@ -3,6 +3,7 @@ use Rattle.std.specs.Prelude.{ℕ, ℤ, pos, ◌+◌, ◌≤◌, ◌<◌, ◌≡
 use Rattle.std.specs.Str.{IsUtf8}
 use Rattle.sw_tree.specs.Tree as tree
 use Rattle.sw_tree.specs.Tree.{Tree, depth, trees, entries, turns}
+use Rattle.sw_tree.specs.Proper.{IsProper}
 use Rattle.sw_tree.specs.declared.cell.Cell.{Cell}
 use Rattle.sw_tree.specs.declared.cell.Span.{Span}
 use Rattle.sw_tree.specs.declared.cell.Cell.TheVariants.{Null, Bool, Small, Wide, Text, Copied, Bytes, CopiedBytes, List as Items, Map}
@@ -68,6 +69,7 @@ pub record Fits (s : Store) (c : Cell) (cs : List Cell) : Type 0 where
   pub enough : arity c ≤ length (forest s cs)
   pub inside : below c ≤ length cs
   pub shallow : depth (tree_at s c (forest s cs)) ≤ 128
+  pub proper : IsProper (tree_at s c (forest s cs))
   pub skips : forest s (drop (below c) cs) ≡ drop (arity c) (forest s cs)
 
 abbrev pub Formed : Store → List Cell → Type 0

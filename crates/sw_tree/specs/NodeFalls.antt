@@ -25,3 +25,4 @@ deep_le-depth (shape.Text s) = omega arith
 deep_le-depth (shape.Bytes s) = omega arith
 deep_le-depth (shape.List v) = omega (arith, most-trees v.items)
 deep_le-depth (shape.Map v) = let h : most (weighed-Shape-Map-0-at-2.weight Tree (λ t. depth t + 1)) v.items ≤ entries_depth (entries v.items) + 1 = most-entries v.items in omega arith
+deep_le-depth (shape.Kept k) = omega arith

@@ -1,6 +1,6 @@
 -- The tree of one level, whose children are already seen as trees.
-use Rattle.std.specs.Prelude.{string_bytes}
-use Rattle.sw_tree.specs.Tree.{Tree, null, truth, int, text, bytes, list, map, trees, entries}
+use Rattle.std.specs.Prelude.{ℕ, ◌≡◌, string_bytes}
+use Rattle.sw_tree.specs.Tree.{Tree, null, truth, int, text, bytes, list, map, trees, entries, depth}
 use Rattle.sw_tree.specs.declared.node.Shape.{Shape}
 use Rattle.sw_tree.specs.declared.node.Shape.TheVariants as shape
 
@@ -12,3 +12,15 @@ shape_tree (shape.Text s) = text (string_bytes s)
 shape_tree (shape.Bytes s) = bytes s.items
 shape_tree (shape.List v) = list (trees v.items)
 shape_tree (shape.Map v) = map (entries v.items)
+shape_tree (shape.Kept k) = k.value
+
+-- that a count of levels is the tree's, but where a document is kept, whose levels aren't counted ahead
+abbrev pub Counts : Shape → ℕ → Type 0
+Counts shape.Null n = n ≡ 0
+Counts (shape.Bool b) n = n ≡ 0
+Counts (shape.Int z) n = n ≡ 0
+Counts (shape.Text s) n = n ≡ 0
+Counts (shape.Bytes s) n = n ≡ 1
+Counts (shape.List v) n = n ≡ depth (list (trees v.items))
+Counts (shape.Map v) n = n ≡ depth (map (entries v.items))
+Counts (shape.Kept k) n = Unit {0}

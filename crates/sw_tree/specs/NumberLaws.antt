@@ -1,12 +1,12 @@
 -- The decimal text of a number spells that number.
-use Rattle.std.specs.Prelude.{◌≡◌, ℕ, zero, suc, ◌+◌, ◌-◌, ◌*◌, ◌/◌, ◌%◌, ◌^◌, ◌<◌, ◌≤◌, ℤ, pos, negsuc, List, [], ◌∷◌, ◌++◌, Bool, true, false, ◌&&◌, Some}
+use Rattle.std.specs.Prelude.{◌≡◌, ℕ, zero, suc, ◌+◌, ◌-◌, ◌*◌, ◌/◌, ◌%◌, ◌^◌, ◌<◌, ◌≤◌, ℤ, pos, negsuc, List, [], ◌∷◌, ◌++◌, Bool, true, false, ◌&&◌, Some, None, if◌then◌else◌}
 use Rattle.std.proofs.Common.{refl, ap, arith, inl, inr, leb, eqb, ltb}
 use Rattle.std.specs.List.{list_all}
 use Rattle.std.specs.Fmt.{decimal, signed_decimal}
 use Rattle.std.proofs.lemmas.Bool.Decides.{leb_tells, eqb_tells, Decides-ltb}
 use Rattle.std.proofs.lemmas.List.Folds.{list_all-append}
 use Rattle.std.proofs.lemmas.Fmt.{decimal_digit, decimal_by_steps_wide}
-use Rattle.sw_tree.specs.Number.{is_digit, is_leading, is_int, value_from, value_of, key_number}
+use Rattle.sw_tree.specs.Number.{is_digit, is_leading, is_int, is_number, is_whole, int_of, value_from, value_of, key_number}
 
 -- from -2^127 to 2^128 - 1
 abbrev pub IsInRange : ℤ → Type 0
@@ -97,3 +97,19 @@ key_number-signed_decimal (negsuc n) h =
     let s = decimal_spells (suc n) (omega arith) in
     let l = s.leading (omega arith) in
     negative (decimal (suc n)) n (int_from_leading _ l s.digits) s.value h
+
+-- a text that spells the number, with no fraction and no exponent
+pub record IsTextOf (z : ℤ) (s : List ℕ) : Type 0 where
+  pub number : is_number s ≡ true
+  pub whole : is_whole s ≡ true
+  pub value : int_of s ≡ z
+
+by_tests : (a b : Bool) (y z : ℤ) → (if a then (if b then Some y else None) else None) ≡ Some z → (a ≡ true) × (b ≡ true) × (y ≡ z)
+by_tests true true y z e = (refl, refl, cc)
+by_tests true false y z e = absurd (cc)
+by_tests false b y z e = absurd (cc)
+
+pub signed_decimal_text : (z : ℤ) → IsInRange z → IsTextOf z (signed_decimal z)
+signed_decimal_text z h =
+    let t = by_tests (is_number (signed_decimal z)) (is_whole (signed_decimal z)) (int_of (signed_decimal z)) z (key_number-signed_decimal z h) in
+    record { number = t.0; whole = t.1; value = t.2 }

@@ -1,7 +1,11 @@
 -- What the calls of a wire answer.
-use Rattle.std.specs.Prelude.{◌≡◌, ℕ, List, Option, Some, None, Result, Ok, Err, Vec}
+use Rattle.std.specs.Prelude.{◌≡◌, ◌≤◌, ℕ, List, Option, Some, None, Result, Ok, Err, Vec}
 use Rattle.std.specs.declared.alloc.Global.{Global}
-use Rattle.sw_tree.specs.Tree.{Tree}
+use Rattle.sw_tree.specs.Tree.{Tree, depth}
+use Rattle.sw_tree.specs.Image.{image}
+use Rattle.sw_tree.specs.Proper.{IsProper}
+use Rattle.sw_tree.specs.declared.mode.WireKind.{WireKind}
+use Rattle.sw_tree.specs.declared.mode.Place.TheVariants.{Value}
 use Rattle.sw_tree.specs.Doc.{Document}
 use Rattle.sw_tree.specs.declared.fail.WireError.{WireError}
 use Rattle.sw_tree.specs.declared.fail.WireError.TheVariants as wire
@@ -29,3 +33,8 @@ abbrev pub IsPrinted : Result (Vec ℕ Global) PrintError → Option (List ℕ) 
 IsPrinted (Ok v) r = r ≡ Some v.items
 IsPrinted (Err print.Key) r = r ≡ None
 IsPrinted (Err print.Memory) r = Unit {0}
+
+-- a node's tree that has an image prints, and what it prints as spells the image
+abbrev pub PrintsImages : WireKind → Spelled → Printed → Type 0
+PrintsImages w spelled printed =
+    (t i : Tree) → IsProper t → depth t ≤ 128 → image w Value t ≡ Some i → (b : List ℕ) × (printed t ≡ Some b) × (spelled b ≡ Ok i)

@@ -1,5 +1,6 @@
 ghost use Rattle.std.specs.Prelude.{◌≡◌, ◌<◌, ◌≤◌, ◌+◌, [], ◌∷◌, length, slice_range, None, Some, is_some, true, false, IsOk, OnOk, OnErr};
 ghost use Rattle.std.specs.Str.{IsUtf8};
+ghost use Rattle.sw_tree.specs.Steps.{Each};
 ghost use Rattle.sw_tree.specs.Tree as tree;
 ghost use Rattle.sw_tree.specs.Builder.{added, longer, opened, closed, finished, CanClose};
 
@@ -51,6 +52,8 @@ impl<'de> DocBuilder<'de> {
     ghost use Rattle.std.specs.Prelude.{slice_range};
     ghost use Rattle.sw_tree.specs.Cells.{Store, IsFine, arity, below, tree_at};
     ghost use Rattle.sw_tree.specs.Tree.{depth};
+    ghost use Rattle.sw_tree.specs.NumberLaws.{IsInRange};
+    ghost use Rattle.sw_tree.specs.Proper.{IsProper};
 
     /// Nothing open and no root, over that input. It takes no memory.
     pub fn new(alloc: Global, input: &'de [u8]) -> DocBuilder<'de>
@@ -66,6 +69,13 @@ impl<'de> DocBuilder<'de> {
         }
     }
 
+    /// Takes room for that many nodes more.
+    pub fn reserve(&mut self, nodes: usize) -> Result<(), AllocError>
+        ensures { self.new ≡ self.old }
+    {
+        self.cells.reserve(nodes)
+    }
+
     /// Adds the tree of a cell that has nothing below it.
     fn leaf(&mut self, cell: Cell) -> Result<(), AllocError>
         requires no_root { self.old.root ≡ None }
@@ -74,6 +84,7 @@ impl<'de> DocBuilder<'de> {
         requires low { below cell ≡ 0 }
         requires shallow { depth (tree_at (record { input = self.old.input; side = []; wides = [] }) cell []) ≤ 1 }
         requires room { 0 < depth (tree_at (record { input = self.old.input; side = []; wides = [] }) cell []) → length self.old.frames < 128 }
+        requires proper { IsProper (tree_at (record { input = self.old.input; side = []; wides = [] }) cell []) }
         ensures ok { OnOk result (self.new ≡ added self.old (tree_at (record { input = self.old.input; side = []; wides = [] }) cell [])) }
         ensures err { OnErr result (self.new ≡ self.old) }
     {
@@ -112,6 +123,7 @@ impl<'de> DocBuilder<'de> {
     /// Adds a number, in the list beside the cells.
     fn wide(&mut self, value: Whole) -> Result<(), AllocError>
         requires no_root { self.old.root ≡ None }
+        requires range { IsInRange value }
         ensures ok { OnOk result (self.new ≡ added self.old (tree.int value)) }
         ensures err { OnErr result (self.new ≡ self.old) }
     {
@@ -158,7 +170,8 @@ impl<'de> DocBuilder<'de> {
         ensures ok { OnOk result (self.new ≡ added self.old (tree.bytes (slice_range self.old.input start end))) }
         ensures err { OnErr result (self.new ≡ self.old) }
     {
-        self.leaf(Cell::Bytes(Span { start, end }))
+        let span = span_of(self.input, start, end);
+        self.leaf(Cell::Bytes(span))
     }
 
     /// Adds that text, and keeps a copy of it beside the input.
@@ -271,6 +284,14 @@ impl<'de> DocBuilder<'de> {
         } = self;
         Doc::from_cells(input, side, wides, cells)
     }
+}
+
+/// The span of a part of bytes, which are below 256.
+fn span_of(source: &[u8], start: usize, end: usize) -> Span
+    ensures span { result ≡ record { start = start; end = end } }
+    ensures small { Each (λ b. b < 256) source.now }
+{
+    Span { start, end }
 }
 
 /// The cell of a finished list or map of so many children.

@@ -3,15 +3,20 @@
 
 ghost use Rattle.std.specs.Prelude.{◌≡◌, ◌≤◌, IfOk};
 ghost use Rattle.sw_tree.specs.Tree.{list, trees, entries, depth};
+ghost use Rattle.sw_tree.specs.Seen.{trees_of, pairs_of};
+ghost use Rattle.sw_tree.specs.View.{tree_of};
 ghost use Rattle.sw_tree.specs.Image as image;
 ghost use Rattle.sw_tree.specs.Image.{numbers, value_image, trees_image, entries_image};
 ghost use Rattle.sw_tree.specs.Imaged.{MeansImage, IsImaged};
 ghost use Rattle.sw_tree.specs.declared.mode.Place.TheVariants.{Value};
 
+use crate::content::Content;
+use crate::doc::Doc;
 use crate::fail::PrintError;
 use crate::mode::WireKind;
 use crate::node::Node;
 use crate::number::whole_text;
+use crate::view::{Entries, Items, View};
 use crate::whole::Whole;
 use std::alloc::{AllocError, Global};
 
@@ -26,33 +31,46 @@ pub fn image(alloc: Global, node: &Node, wire: WireKind) -> Result<Node, PrintEr
     ensures levels { IfOk result (λ n. depth n ≤ depth node.now) }
 {
     match wire {
-        WireKind::Json => image_of(alloc, node),
+        WireKind::Json => json_image(alloc, node),
         WireKind::Compact => Ok(node.copy(alloc)?),
     }
 }
 
 /// The image on JSON in value place.
-#[cycle(image)]
-fn image_of(alloc: Global, node: &Node) -> Result<Node, PrintError>
+fn json_image(alloc: Global, node: &Node) -> Result<Node, PrintError>
     ensures { IsImaged result (value_image node.now) }
 {
-    prove!(node.depth() <= 128);
-    if let Some(items) = node.items() {
+    if let Content::Document(view) = node.content() {
+        return image_of(alloc, view);
+    }
+    let doc = Doc::from_node(alloc, node)?;
+    image_of(alloc, doc.view())
+}
+
+/// The image on JSON in value place.
+#[cycle(image)]
+fn image_of(alloc: Global, view: View<'_>) -> Result<Node, PrintError>
+    ensures { IsImaged result (value_image (tree_of view.entry)) }
+{
+    if let Some(items) = view.items() {
         return Ok(Node::shallow_list(images_of(alloc, items)?));
     }
-    if let Some(pairs) = node.entries() {
+    if let Some(pairs) = view.entries() {
         return Ok(Node::shallow_map(entry_images_of(alloc, pairs)?));
     }
-    match node.as_bytes() {
+    match view.as_bytes() {
         Some(bytes) => Ok(list_of_numbers(alloc, bytes)?),
-        None => Ok(node.copy(alloc)?),
+        None => Ok(view.to_node(alloc)?),
     }
 }
 
 /// The images of the items.
 #[cycle(image)]
-fn images_of(alloc: Global, items: &[Node]) -> Result<Vec<Node>, PrintError>
-    ensures { MeansImage (λ v. trees v.items) result (trees_image (trees items.now)) }
+fn images_of(alloc: Global, items: Items<'_>) -> Result<Vec<Node>, PrintError>
+    ensures { MeansImage
+        (λ v. trees v.items)
+        result
+        (trees_image (trees (trees_of items.entry))) }
 {
     let mut images = Vec::new(alloc);
     for item in items {
@@ -63,8 +81,11 @@ fn images_of(alloc: Global, items: &[Node]) -> Result<Vec<Node>, PrintError>
 
 /// The images of the entries.
 #[cycle(image)]
-fn entry_images_of(alloc: Global, pairs: &[(Node, Node)]) -> Result<Vec<(Node, Node)>, PrintError>
-    ensures { MeansImage (λ v. entries v.items) result (entries_image (entries pairs.now)) }
+fn entry_images_of(alloc: Global, pairs: Entries<'_>) -> Result<Vec<(Node, Node)>, PrintError>
+    ensures { MeansImage
+        (λ v. entries v.items)
+        result
+        (entries_image (entries (pairs_of pairs.entry))) }
 {
     let mut images = Vec::new(alloc);
     for (key, value) in pairs {
@@ -74,8 +95,8 @@ fn entry_images_of(alloc: Global, pairs: &[(Node, Node)]) -> Result<Vec<(Node, N
 }
 
 /// The image on JSON in key place.
-fn key_image_of(alloc: Global, key: &Node) -> Result<Node, PrintError>
-    ensures { IsImaged result (image.key_image key.now) }
+fn key_image_of(alloc: Global, key: View<'_>) -> Result<Node, PrintError>
+    ensures { IsImaged result (image.key_image (tree_of key.entry)) }
 {
     if let Some(text) = key.as_text() {
         return Ok(Node::text(String::from_str(alloc, text)?));

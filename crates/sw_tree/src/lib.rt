@@ -4,12 +4,15 @@
 pub mod builder;
 mod cell;
 mod containers;
+pub mod content;
 pub mod doc;
 pub mod fail;
 mod from_node;
 pub mod images;
+mod kept;
 pub mod kinds;
 mod leaves;
+mod levels;
 pub mod meant;
 pub mod mode;
 pub mod node;
@@ -25,6 +28,7 @@ pub mod whole;
 pub mod wire;
 
 pub use builder::DocBuilder;
+pub use content::Content;
 pub use doc::Doc;
 pub use fail::{
     DeError, DeFail, DeKind, PrintError, Refusal, SerError, SerFail, TooDeep, WireError,

@@ -2,12 +2,17 @@
 
 ghost use Rattle.std.specs.Prelude.{◌≡◌, ◌<◌, ◌≤◌, IfOk, string_bytes};
 ghost use Rattle.sw_tree.specs.Tree.{null, truth, int, text, bytes, list, map, trees, entries, depth, kind_of, trees_depth, entries_depth};
+ghost use Rattle.sw_tree.specs.Proper.{IsProper, AreProper, AreProperEntries};
 
+use crate::content::Content;
 use crate::fail::TooDeep;
+use crate::kept::Kept;
+use crate::levels::levels_of;
 use crate::mode::Kind;
 use crate::whole::Whole;
 use std::alloc::{AllocError, Global};
 use std::marker::Model;
+use std::sync::Arc;
 
 /// A tree of at most 128 levels.
 ///
@@ -30,6 +35,8 @@ pub(crate) enum Shape {
     Bytes(Vec<u8>),
     List(Vec<Node>),
     Map(Vec<(Node, Node)>),
+    /// A list or map as the document that it was read from, whose levels aren't counted ahead.
+    Kept(Arc<Kept>),
 }
 
 impl Model for Node {
@@ -41,11 +48,12 @@ impl Model for Node {
 
     ghost coded = { coded_tree };
 
-    ghost use Rattle.sw_tree.specs.NodeShape.{shape_tree};
+    ghost use Rattle.sw_tree.specs.NodeShape.{shape_tree, Counts};
+    ghost use Rattle.sw_tree.specs.Proper.{IsProper};
 
     ghost view = { λ a. shape_tree a.shape };
 
-    ghost invariant = { λ a. (a.levels ≡ depth (shape_tree a.shape)) × (a.levels ≤ 128) };
+    ghost invariant = { λ a. Counts a.shape a.levels × (depth (shape_tree a.shape) ≤ 128) × IsProper (shape_tree a.shape) };
 
     ghost size = { depth };
 
@@ -55,9 +63,10 @@ impl Model for Node {
 }
 
 impl Node {
-    ghost use Rattle.std.specs.Prelude.{option_map, MatchResult};
+    ghost use Rattle.std.specs.Prelude.{MatchResult};
     ghost use Rattle.std.specs.Option.{option_copied};
-    ghost use Rattle.sw_tree.specs.Tree.{items_at, pairs_at, text_at, bytes_at, truth_at, int_at};
+    ghost use Rattle.sw_tree.specs.Tree.{text_at, bytes_at, truth_at, int_at};
+    ghost use Rattle.sw_tree.specs.Content.{content_tree};
 
     /// The null.
     pub fn null() -> Node
@@ -93,6 +102,7 @@ impl Node {
     pub fn text(value: String) -> Node
         ensures { result ≡ text (string_bytes value) }
     {
+        let _text = value.as_str();
         Node {
             shape: Shape::Text(value),
             levels: 0,
@@ -169,7 +179,18 @@ impl Node {
         }
     }
 
-    /// An equal tree.
+    /// The tree of that document, which its copies share.
+    pub(crate) fn kept(alloc: Global, kept: Kept) -> Result<Node, AllocError>
+        ensures { IfOk result (λ n. n ≡ kept) }
+    {
+        prove!(kept.view().kind() == kept.view().kind());
+        Ok(Node {
+            shape: Shape::Kept(Arc::new(alloc, kept)?),
+            levels: 0,
+        })
+    }
+
+    /// An equal tree. Where it is kept as the document that it was read from, it takes no memory.
     #[cycle(copy)]
     pub fn copy(&self, alloc: Global) -> Result<Node, AllocError>
         ensures { IfOk result (λ n. n ≡ self.now) }
@@ -188,6 +209,10 @@ impl Node {
                 shape: Shape::Map(entry_copies(alloc, pairs.as_slice())?),
                 levels: self.levels,
             }),
+            Shape::Kept(kept) => Ok(Node {
+                shape: Shape::Kept(kept.clone()?),
+                levels: self.levels,
+            }),
         }
     }
 
@@ -195,13 +220,19 @@ impl Node {
     pub fn depth(&self) -> u8
         ensures levels { result ≡ depth self.now }
         ensures within { result ≤ 128 }
+        ensures proper { IsProper self.now }
     {
-        self.levels
+        match &self.shape {
+            Shape::Kept(kept) => levels_of(kept.view()),
+            _ => self.levels,
+        }
     }
 
     /// Its kind.
     pub fn kind(&self) -> Kind
-        ensures { result ≡ kind_of self.now }
+        ensures value { result ≡ kind_of self.now }
+        ensures shallow { depth self.now ≤ 128 }
+        ensures proper { IsProper self.now }
     {
         match &self.shape {
             Shape::Null => Kind::Null,
@@ -211,6 +242,7 @@ impl Node {
             Shape::Bytes(_) => Kind::Bytes,
             Shape::List(_) => Kind::List,
             Shape::Map(_) => Kind::Map,
+            Shape::Kept(kept) => kept.view().kind(),
         }
     }
 
@@ -220,6 +252,7 @@ impl Node {
     {
         match &self.shape {
             Shape::Bool(value) => Some(*value),
+            Shape::Kept(kept) => kept.view().as_bool(),
             _ => None,
         }
     }
@@ -230,6 +263,7 @@ impl Node {
     {
         match &self.shape {
             Shape::Int(value) => Some(*value),
+            Shape::Kept(kept) => kept.view().as_int(),
             _ => None,
         }
     }
@@ -240,6 +274,7 @@ impl Node {
     {
         match &self.shape {
             Shape::Text(value) => Some(value.as_str()),
+            Shape::Kept(kept) => kept.view().as_text(),
             _ => None,
         }
     }
@@ -250,27 +285,24 @@ impl Node {
     {
         match &self.shape {
             Shape::Bytes(value) => Some(value.as_slice()),
+            Shape::Kept(kept) => kept.view().as_bytes(),
             _ => None,
         }
     }
 
-    /// The items in order, where it is a list.
-    pub fn items(&self) -> Option<&[Node]>
-        ensures { option_map (λ s. s.now) result ≡ items_at self.now }
+    /// What it is, with its parts.
+    pub fn content(&self) -> Content<'_>
+        ensures { content_tree result ≡ self.now }
     {
         match &self.shape {
-            Shape::List(items) => Some(items.as_slice()),
-            _ => None,
-        }
-    }
-
-    /// The entries in order, each a key and its value, where it is a map.
-    pub fn entries(&self) -> Option<&[(Node, Node)]>
-        ensures { option_map (λ s. s.now) result ≡ pairs_at self.now }
-    {
-        match &self.shape {
-            Shape::Map(entries) => Some(entries.as_slice()),
-            _ => None,
+            Shape::Null => Content::Null,
+            Shape::Bool(value) => Content::Bool(*value),
+            Shape::Int(value) => Content::Int(*value),
+            Shape::Text(value) => Content::Text(value.as_str()),
+            Shape::Bytes(value) => Content::Bytes(value.as_slice()),
+            Shape::List(items) => Content::List(items.as_slice()),
+            Shape::Map(entries) => Content::Map(entries.as_slice()),
+            Shape::Kept(kept) => Content::Document(kept.view()),
         }
     }
 }
@@ -279,6 +311,7 @@ impl Node {
 fn greatest(items: &[Node]) -> u8
     ensures levels { result ≡ trees_depth (trees items.now) }
     ensures within { result ≤ 128 }
+    ensures proper { AreProper (trees items.now) }
 {
     let mut most = 0;
     for item in items {
@@ -291,6 +324,7 @@ fn greatest(items: &[Node]) -> u8
 fn greatest_entry(items: &[(Node, Node)]) -> u8
     ensures levels { result ≡ entries_depth (entries items.now) }
     ensures within { result ≤ 128 }
+    ensures proper { AreProperEntries (entries items.now) }
 {
     let mut most = 0;
     for (key, value) in items {
@@ -304,7 +338,7 @@ fn greatest_entry(items: &[(Node, Node)]) -> u8
 fn copies(alloc: Global, items: &[Node]) -> Result<Vec<Node>, AllocError>
     ensures { IfOk result (λ v. v.items ≡ items.now) }
 {
-    let mut copied = Vec::new(alloc);
+    let mut copied = Vec::with_capacity(alloc, items.len())?;
     for item in items {
         copied.push(item.copy(alloc)?)?;
     }
@@ -316,7 +350,7 @@ fn copies(alloc: Global, items: &[Node]) -> Result<Vec<Node>, AllocError>
 fn entry_copies(alloc: Global, pairs: &[(Node, Node)]) -> Result<Vec<(Node, Node)>, AllocError>
     ensures { IfOk result (λ v. v.items ≡ pairs.now) }
 {
-    let mut copied = Vec::new(alloc);
+    let mut copied = Vec::with_capacity(alloc, pairs.len())?;
     for (key, value) in pairs {
         copied.push((key.copy(alloc)?, value.copy(alloc)?))?;
     }

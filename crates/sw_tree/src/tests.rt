@@ -1,8 +1,8 @@
 ghost use Rattle.std.specs.Prelude.{◌≡◌, ◌↔◌, IsTrue};
 
 use crate::{
-    DeError, DeFail, DeKind, Doc, DocBuilder, Keyed, Kind, Mode, Node, Place, PrintError, Refusal,
-    SerError, Skipped, Step, View, Whole, WireKind, image, key_number, node_at, path_of,
+    Content, DeError, DeFail, DeKind, Doc, DocBuilder, Keyed, Kind, Mode, Node, Place, PrintError,
+    Refusal, SerError, Skipped, Step, View, Whole, WireKind, image, key_number, node_at, path_of,
     whole_of_spelling, whole_text,
 };
 use std::alloc::{AllocError, Global};
@@ -248,24 +248,33 @@ fn small_list(alloc: Global) -> Result<Node, AllocError> {
     })
 }
 
-fn is_small_list(node: &Node) -> bool {
-    match node.items() {
-        Some([one, letter, minus_one, null]) => {
-            one.as_int() == Some(Whole::from_u128(1))
-                && letter.as_text() == Some("a")
-                && minus_one.as_int() == Some(Whole::from_i128(-1))
-                && null.kind() == Kind::Null
-        }
-        _ => false,
-    }
+fn is_small_list(view: View<'_>) -> bool {
+    let Some(mut items) = view.items() else {
+        return false;
+    };
+    matches!(items.next(), Some(one) if one.as_int() == Some(Whole::from_u128(1)))
+        && matches!(items.next(), Some(letter) if letter.as_text() == Some("a"))
+        && matches!(items.next(), Some(minus_one) if minus_one.as_int() == Some(Whole::from_i128(-1)))
+        && matches!(items.next(), Some(null) if null.kind() == Kind::Null)
+        && matches!(items.next(), None)
 }
 
-/// Whether the list stays the same as a copy, and through a document.
+/// Whether the list stays the same as a copy, through a document, and kept as a document.
 fn stays(alloc: Global) -> Result<bool, AllocError> {
     let list = small_list(alloc)?;
-    let doc = Doc::from_node(alloc, &list)?;
-    let side = doc.side_len();
-    Ok(is_small_list(&list.copy(alloc)?) && is_small_list(&doc.view().to_node(alloc)?) && side == 1)
+    let copied = list.copy(alloc)?;
+    let doc = Doc::from_node(alloc, &copied)?;
+    let kept = doc.view().to_node(alloc)?.copy(alloc)?;
+    let again = Doc::from_node(alloc, &kept)?;
+    let is_kept = matches!(kept.content(), Content::Document(view) if is_small_list(view));
+    Ok(
+        is_small_list(doc.view())
+            && is_small_list(again.view())
+            && is_kept
+            && kept.depth() == 1
+            && kept.kind() == Kind::List
+            && doc.side_len() == 1,
+    )
 }
 
 #[test]
@@ -281,8 +290,8 @@ fn key_text(alloc: Global, key: Node) -> Result<Option<String>, PrintError> {
         return Ok(None);
     };
     let image = image(alloc, &map, WireKind::Json)?;
-    match image.entries() {
-        Some([(key, _)]) => match key.as_text() {
+    match image.content() {
+        Content::Map([(key, _)]) => match key.as_text() {
             Some(text) => Ok(Some(String::from_str(alloc, text)?)),
             None => Ok(None),
         },

@@ -16,32 +16,36 @@ pub(crate) fn node_of(alloc: Global, view: View<'_>) -> Result<Node, AllocError>
     ensures { IfOk result (λ n. n ≡ tree_of view.entry) }
 {
     if let Some(items) = view.items() {
-        return Ok(Node::shallow_list(nodes_of(alloc, items)?));
+        return Ok(Node::shallow_list(nodes_of(alloc, view.len(), items)?));
     }
     if let Some(entries) = view.entries() {
-        return Ok(Node::shallow_map(node_pairs_of(alloc, entries)?));
+        return Ok(Node::shallow_map(node_pairs_of(alloc, view.len(), entries)?));
     }
     leaf_of(alloc, view)
 }
 
-/// The trees of the items, in order.
+/// The trees of the items, in order, for which room is taken at once.
 #[cycle(node_of)]
-fn nodes_of(alloc: Global, items: Items<'_>) -> Result<Vec<Node>, AllocError>
+fn nodes_of(alloc: Global, room: usize, items: Items<'_>) -> Result<Vec<Node>, AllocError>
     ensures { IfOk result (λ v. v.items ≡ trees_of items.entry) }
 {
-    let mut nodes = Vec::new(alloc);
+    let mut nodes = Vec::with_capacity(alloc, room)?;
     for item in items {
         nodes.push(node_of(alloc, item)?)?;
     }
     Ok(nodes)
 }
 
-/// The trees of the entries, in order.
+/// The trees of the entries, in order, for which room is taken at once.
 #[cycle(node_of)]
-fn node_pairs_of(alloc: Global, entries: Entries<'_>) -> Result<Vec<(Node, Node)>, AllocError>
+fn node_pairs_of(
+    alloc: Global,
+    room: usize,
+    entries: Entries<'_>,
+) -> Result<Vec<(Node, Node)>, AllocError>
     ensures { IfOk result (λ v. v.items ≡ pairs_of entries.entry) }
 {
-    let mut pairs = Vec::new(alloc);
+    let mut pairs = Vec::with_capacity(alloc, room)?;
     for (key, value) in entries {
         pairs.push((node_of(alloc, key)?, node_of(alloc, value)?))?;
     }

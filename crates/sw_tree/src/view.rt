@@ -3,6 +3,7 @@ ghost use Rattle.sw_tree.specs.Cells.{Store, Formed, IsPart, IsText, part};
 ghost use Rattle.sw_tree.specs.Formed.{Formed-prop};
 
 use crate::cell::{Cell, Span};
+use crate::kept::Kept;
 use crate::mode::Kind;
 use crate::node::Node;
 use crate::to_node::node_of;
@@ -30,6 +31,7 @@ impl<'a> View<'a> {
     ghost use Rattle.std.specs.Prelude.{◌+◌, ◌∷◌, drop, true, false, option_map};
     ghost use Rattle.std.specs.Option.{option_copied};
     ghost use Rattle.sw_tree.specs.Tree.{depth, size, kind_of, items_at, len_of, text_at, bytes_at, truth_at, int_at, pairs_at};
+    ghost use Rattle.sw_tree.specs.Proper.{IsProper};
     ghost use Rattle.sw_tree.specs.Cells.{IsFine, arity, tree_at, forest, first};
     ghost use Rattle.sw_tree.specs.Seen.{items_seen, entries_seen};
     ghost use Rattle.sw_tree.specs.View.{seen, tree_of, place_in, is_counting, store_of};
@@ -141,6 +143,7 @@ impl<'a> View<'a> {
     /// The node's cell, and what is known of it.
     fn cell(self) -> Cell
         ensures shallow { depth (tree_of self.entry) ≤ 128 }
+        ensures proper { IsProper (tree_of self.entry) }
         ensures enough { arity result ≤ length (forest (store_of self.entry) (drop (self.entry.at + 1) self.entry.cells.now)) }
         ensures fine { IsFine (store_of self.entry) result }
         ensures tree { tree_of self.entry ≡ tree_at (store_of self.entry) result (forest (store_of self.entry) (drop (self.entry.at + 1) self.entry.cells.now)) }
@@ -155,6 +158,7 @@ impl<'a> View<'a> {
     pub fn kind(self) -> Kind
         ensures value { result ≡ kind_of (tree_of self.entry) }
         ensures shallow { depth (tree_of self.entry) ≤ 128 }
+        ensures proper { IsProper (tree_of self.entry) }
     {
         match self.cell() {
             Cell::Null => Kind::Null,
@@ -228,10 +232,28 @@ impl<'a> View<'a> {
     }
 
     /// An equal tree, which owns copies of the texts and byte strings.
+    ///
+    /// A document's root that is a list or a map is copied whole, with its input, and the
+    /// node's own copies share it.
     pub fn to_node(self, alloc: Global) -> Result<Node, AllocError>
         ensures { IfOk result (λ n. n ≡ tree_of self.entry) }
     {
-        node_of(alloc, self)
+        if self.at != 0 {
+            return node_of(alloc, self);
+        }
+        match self.kind() {
+            Kind::List | Kind::Map => Node::kept(alloc, self.kept(alloc)?),
+            _ => node_of(alloc, self),
+        }
+    }
+
+    /// The document of a root, copied.
+    #[tactic(auto, unfolding(crate::specs::View::seen))]
+    fn kept(self, alloc: Global) -> Result<Kept, AllocError>
+        requires { self.at ≡ 0 }
+        ensures { IfOk result (λ k. k ≡ tree_of self.entry) }
+    {
+        Kept::new(alloc, self.input, self.side, self.wides, self.cells)
     }
 }
 

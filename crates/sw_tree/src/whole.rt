@@ -3,12 +3,13 @@ use std::marker::Model;
 
 /// A whole number from -2^127 to 2^128 - 1.
 ///
-/// A negative one is kept 2^127 higher, below the others: so the fields in
-/// order compare as the numbers do.
+/// A negative one is kept 2^127 higher, below the others, and its bits in two halves: so
+/// the fields in order compare as the numbers do.
 #[derive(Clone, Copy, PartialEq, Eq, PartialOrd, Ord, Hash)]
 pub struct Whole {
     upper: bool,
-    bits: u128,
+    high: u64,
+    low: u64,
 }
 
 impl Model for Whole {
@@ -31,18 +32,28 @@ impl Model for Whole {
 }
 
 impl Whole {
-    ghost use Rattle.std.specs.Prelude.{◌≡◌, pos};
+    ghost use Rattle.std.specs.Prelude.{◌≡◌, pos, None};
     ghost use Rattle.std.specs.Fmt.{signed_decimal};
-    ghost use Rattle.sw_tree.specs.Whole.{natural_of, signed_of};
+    ghost use Rattle.sw_tree.specs.NumberLaws.{IsInRange};
+    ghost use Rattle.sw_tree.specs.Whole.{number_of, IsWithin, natural_of, signed_of};
+
+    /// The number of these bits, which are 2^127 more where it is negative.
+    fn from_bits(upper: bool, bits: u128) -> Whole
+        requires { IsWithin upper bits }
+        ensures { result ≡ number_of upper bits }
+    {
+        Whole {
+            upper,
+            high: (bits / (1 << 64)) as u64,
+            low: (bits % (1 << 64)) as u64,
+        }
+    }
 
     /// That number.
     pub fn from_u128(value: u128) -> Whole
         ensures { result ≡ pos value }
     {
-        Whole {
-            upper: true,
-            bits: value,
-        }
+        Whole::from_bits(true, value)
     }
 
     /// That number.
@@ -50,15 +61,9 @@ impl Whole {
         ensures { result ≡ value }
     {
         if value >= 0 {
-            Whole {
-                upper: true,
-                bits: value as u128,
-            }
+            Whole::from_bits(true, value as u128)
         } else {
-            Whole {
-                upper: false,
-                bits: (value + i128::MAX + 1) as u128,
-            }
+            Whole::from_bits(false, (value + i128::MAX + 1) as u128)
         }
     }
 
@@ -66,7 +71,11 @@ impl Whole {
     pub fn to_u128(self) -> Option<u128>
         ensures { result ≡ natural_of self }
     {
-        if self.upper { Some(self.bits) } else { None }
+        if self.upper {
+            Some(u128::from(self.high) * (1 << 64) + u128::from(self.low))
+        } else {
+            None
+        }
     }
 
     /// The number as an `i128`: `None` exactly where it is 2^127 or more.
@@ -74,36 +83,48 @@ impl Whole {
         ensures { result ≡ signed_of 127 self }
     {
         if self.upper {
-            if self.bits < 1 << 127 {
-                return Some(self.bits as i128);
+            if self.high < 1 << 63 {
+                return Some(i128::from(self.high) * (1 << 64) + i128::from(self.low));
             }
             return None;
         }
-        Some(self.bits as i128 - i128::MAX - 1)
+        Some(i128::from(self.high) * (1 << 64) + i128::from(self.low) - i128::MAX - 1)
     }
 
     /// The number in decimal digits, behind `-` where it is negative. The text stands in the buffer.
     pub fn format(self, buffer: &mut Buffer) -> &str
         ensures { result.now ≡ signed_decimal self }
     {
-        if self.upper {
-            return buffer.format(self.bits);
+        if let Some(short) = self.to_i64() {
+            return buffer.format(short);
         }
-        buffer.format(self.bits as i128 - i128::MAX - 1)
+        match self.to_u128() {
+            Some(natural) => buffer.format(natural),
+            None => buffer.format(self.negative()),
+        }
+    }
+
+    /// The negative number as an `i128`.
+    fn negative(self) -> i128
+        requires { natural_of self ≡ None }
+        ensures { result ≡ self }
+    {
+        i128::from(self.high) * (1 << 64) + i128::from(self.low) - i128::MAX - 1
     }
 
     /// The number as an `i64`: `None` exactly where it has more bits.
     pub(crate) fn to_i64(self) -> Option<i64>
-        ensures { result ≡ signed_of 63 self }
+        ensures value { result ≡ signed_of 63 self }
+        ensures range { IsInRange self }
     {
         if self.upper {
-            if self.bits < 1 << 63 {
-                return Some(self.bits as i64);
+            if self.high == 0 && self.low < 1 << 63 {
+                return Some(self.low as i64);
             }
             return None;
         }
-        if self.bits >= (1 << 127) - (1 << 63) {
-            return Some((self.bits as i128 - i128::MAX - 1) as i64);
+        if self.high == (1 << 63) - 1 && self.low >= 1 << 63 {
+            return Some((self.low - (1 << 63)) as i64 - i64::MAX - 1);
         }
         None
     }
@@ -112,6 +133,18 @@ impl Whole {
     pub(crate) fn from_i64(value: i64) -> Whole
         ensures { result ≡ value }
     {
-        Whole::from_i128(value as i128)
+        if value >= 0 {
+            Whole {
+                upper: true,
+                high: 0,
+                low: value as u64,
+            }
+        } else {
+            Whole {
+                upper: false,
+                high: (1 << 63) - 1,
+                low: (value + i64::MAX + 1) as u64 + (1 << 63),
+            }
+        }
     }
 }

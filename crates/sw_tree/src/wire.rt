@@ -10,7 +10,7 @@ use std::alloc::Global;
 /// what a tree prints as: one text, or none where some key has no image on the wire.
 pub trait Wire {
     ghost use Rattle.sw_tree.specs.declared.mode.WireKind.{WireKind};
-    ghost use Rattle.sw_tree.specs.Wires.{Spelled, Printed, IsFound, IsPrinted};
+    ghost use Rattle.sw_tree.specs.Wires.{Spelled, Printed, IsFound, IsPrinted, PrintsImages};
 
     /// The wire's name.
     const ID: WireKind;
@@ -20,6 +20,9 @@ pub trait Wire {
     ghost spelled: { Spelled };
 
     ghost printed: { Printed };
+
+    /// A node's tree that has an image on the wire prints, and what it prints as spells the image.
+    ghost prints_images: { PrintsImages ID spelled printed };
 
     /// The document that the bytes spell, without copies where the wire allows it.
     ///

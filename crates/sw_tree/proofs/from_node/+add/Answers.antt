@@ -1,27 +1,28 @@
 use Rattle.std.proofs.Common.{ap, sym, subst, ◌∙◌, arith, ◌≡◌, length, true, OnOk}
 use Rattle.sw_tree.specs.Tree.{Tree, entries, entries_content_len, content_len, by_turns}
+use Rattle.sw_tree.specs.Content.{content_tree}
 use Rattle.sw_tree.specs.Builder.{Built, CanClose, added, longer, gained, opened, closed}
-use Rattle.sw_tree.proofs.Children.{map_is, item_depth, entry_depth}
+use Rattle.sw_tree.proofs.Children.{item_depth, entry_depth}
 use Rattle.sw_tree.proofs.Gained.{closed-map, map_complete, added-open}
 use Rattle.sw_tree.proofs.from_node.+add.Goals as goal
 
-pub add-close-requires-in-Some-entries : goal.add-close-requires-in-Some-entries
-add-close-requires-in-Some-entries t c =
-    let es = c.in-Some-entries.entries.now in
+pub add-close-requires-in-Map : goal.add-close-requires-in-Map
+add-close-requires-in-Map t c =
+    let es = c.in-Map.entries.now in
     let n = entries_content_len (entries es) in
     let is : c.add_entries.new.builder ≡ gained (longer (opened c.args.builder.now true) n) (by_turns es) =
-    c.in_ok-add_entries.ensures ∙ ap (λ (b : Built). gained (longer b n) (by_turns es)) c.in_ok-open_map.ensures.ok in
+    c.in_ok-add_entries-in-Map.ensures ∙ ap (λ (b : Built). gained (longer b n) (by_turns es)) c.in_ok-open_map-in-Map.ensures.ok in
     subst CanClose (sym is) (map_complete c.args.builder.now n es)
 
-pub add-returns-in-Some-entries : goal.add-returns-in-Some-entries
-add-returns-in-Some-entries t c =
-    let es = c.in-Some-entries.entries.now in
+pub add-returns-in_ok-add_entries-in-Map : goal.add-returns-in_ok-add_entries-in-Map
+add-returns-in_ok-add_entries-in-Map t c =
+    let es = c.in-Map.entries.now in
     let n = entries_content_len (entries es) in
     let is : closed c.add_entries.new.builder ≡ added (longer c.args.builder.now (content_len c.args.node.now)) c.args.node.now =
-    ap closed (c.in_ok-add_entries.ensures ∙ ap (λ (b : Built). gained (longer b n) (by_turns es)) c.in_ok-open_map.ensures.ok)
+    ap closed (c.in_ok-add_entries-in-Map.ensures ∙ ap (λ (b : Built). gained (longer b n) (by_turns es)) c.in_ok-open_map-in-Map.ensures.ok)
     ∙ closed-map c.args.builder.now n es
-    ∙ ap (λ (u : Tree). added (longer c.args.builder.now (content_len u)) u) (sym (map_is c.args.node.now es c.in-Some-entries.ensures)) in
-    subst (λ (b : Built). OnOk c.close-in-Some-entries.result (c.close-in-Some-entries.new.self ≡ b)) is c.close-in-Some-entries.ensures.ok
+    ∙ ap (λ (u : Tree). added (longer c.args.builder.now (content_len u)) u) (ap content_tree (sym c.in-Map.is) ∙ c.content.ensures) in
+    subst (λ (b : Built). OnOk c.close-in-Map.result (c.close-in-Map.new.self ≡ b)) is c.close-in-Map.ensures.ok
 
 pub add_entries-add-requires : goal.add_entries-add-requires
 add_entries-add-requires t c =

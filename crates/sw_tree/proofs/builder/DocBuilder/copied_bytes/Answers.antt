@@ -1,5 +1,6 @@
 use Rattle.std.proofs.Common.{ap, ◌∙◌, reverse, arith, length, length-append, ◌≤◌, ◌+◌}
 use Rattle.sw_tree.specs.Tree.{bytes}
+use Rattle.sw_tree.specs.ProperLaws.{bytes-fit}
 use Rattle.sw_tree.specs.Cells.{Store}
 use Rattle.sw_tree.specs.Builder.{Built, added, longer}
 use Rattle.sw_tree.proofs.BuilderLemmas.{kids_le, kept_bytes, frames_len}
@@ -16,7 +17,7 @@ invariant_of-self-2 c =
     let s : Store = record { input = a.input.now; side = a.side.items; wides = a.wides.items } in
     let r = reverse a.opens.items in
     let few : 1 + length r ≤ 128 = omega (arith, frames_len s r a.cells.items, ap (λ (b : Built). length b.frames) c.self.view_is, c.requires.room) in
-    let h = kept_bytes s c.args.bytes.now r a.cells.items a.kids c.len-before.result c.len.result (omega arith) (omega (arith, c.in_ok-extend_from_slice.ensures.len, length-append a.side.items c.args.bytes.now)) few c.self.invariant (ap (λ (b : Built). b.root) c.self.view_is ∙ c.requires.no_root) in
+    let h = kept_bytes s c.args.bytes.now r a.cells.items a.kids c.len-before.result c.len.result (omega arith) (omega (arith, c.in_ok-extend_from_slice.ensures.len, length-append a.side.items c.args.bytes.now)) few (bytes-fit c.args.bytes.now c.type_inv.bytes) c.self.invariant (ap (λ (b : Built). b.root) c.self.view_is ∙ c.requires.no_root) in
     rw (c.in_ok-extend_from_slice.ensures.items, c.in_default.ensures.items) h.stacked
 
 pub returns-clause-ok : goal.returns-clause-ok
@@ -25,5 +26,5 @@ returns-clause-ok c =
     let s : Store = record { input = a.input.now; side = a.side.items; wides = a.wides.items } in
     let r = reverse a.opens.items in
     let few : 1 + length r ≤ 128 = omega (arith, frames_len s r a.cells.items, ap (λ (b : Built). length b.frames) c.self.view_is, c.requires.room) in
-    let h = kept_bytes s c.args.bytes.now r a.cells.items a.kids c.len-before.result c.len.result (omega arith) (omega (arith, c.in_ok-extend_from_slice.ensures.len, length-append a.side.items c.args.bytes.now)) few c.self.invariant (ap (λ (b : Built). b.root) c.self.view_is ∙ c.requires.no_root) in
+    let h = kept_bytes s c.args.bytes.now r a.cells.items a.kids c.len-before.result c.len.result (omega arith) (omega (arith, c.in_ok-extend_from_slice.ensures.len, length-append a.side.items c.args.bytes.now)) few (bytes-fit c.args.bytes.now c.type_inv.bytes) c.self.invariant (ap (λ (b : Built). b.root) c.self.view_is ∙ c.requires.no_root) in
     rw (c.in_ok-extend_from_slice.ensures.items, c.in_default.ensures.items) (h.means ∙ ap (λ (b : Built). added (longer b (length c.args.bytes.now)) (bytes c.args.bytes.now)) c.self.view_is)

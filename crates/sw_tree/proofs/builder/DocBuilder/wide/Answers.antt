@@ -14,13 +14,13 @@ pub invariant_of-self-2 : goal.invariant_of-self-2
 invariant_of-self-2 c =
     let a = c.self.inside in
     let s : Store = record { input = a.input.now; side = a.side.items; wides = a.wides.items } in
-    let h = kept_wide s c.args.value (reverse a.opens.items) a.cells.items a.kids c.len-index.result (omega arith) c.self.invariant (ap (λ (b : Built). b.root) c.self.view_is ∙ c.requires.no_root) in
+    let h = kept_wide s c.args.value (reverse a.opens.items) a.cells.items a.kids c.len-index.result (omega arith) c.requires.range c.self.invariant (ap (λ (b : Built). b.root) c.self.view_is ∙ c.requires.no_root) in
     rw (c.in_ok-push.ensures.items, c.in_default.ensures.items) h.stacked
 
 pub returns-clause-ok : goal.returns-clause-ok
 returns-clause-ok c =
     let a = c.self.inside in
     let s : Store = record { input = a.input.now; side = a.side.items; wides = a.wides.items } in
-    let h = kept_wide s c.args.value (reverse a.opens.items) a.cells.items a.kids c.len-index.result (omega arith) c.self.invariant (ap (λ (b : Built). b.root) c.self.view_is ∙ c.requires.no_root) in
+    let h = kept_wide s c.args.value (reverse a.opens.items) a.cells.items a.kids c.len-index.result (omega arith) c.requires.range c.self.invariant (ap (λ (b : Built). b.root) c.self.view_is ∙ c.requires.no_root) in
     rw (c.in_ok-push.ensures.items, c.in_default.ensures.items)
     (h.means ∙ ap (λ (b : Built). added b (int c.args.value)) (longer-none _ ∙ c.self.view_is))

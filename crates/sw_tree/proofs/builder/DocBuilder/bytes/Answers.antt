@@ -1,0 +1,10 @@
+use Rattle.std.proofs.Common.{ap, subst, List, ℕ, ◌<◌}
+use Rattle.sw_tree.specs.Steps.{Each}
+use Rattle.sw_tree.specs.ProperLaws.{bytes-part}
+use Rattle.sw_tree.specs.Builder.{Built}
+use Rattle.sw_tree.proofs.builder.DocBuilder.bytes.Goals as goal
+
+pub leaf-requires-clause-proper : goal.leaf-requires-clause-proper
+leaf-requires-clause-proper c =
+    bytes-part c.span_of-span.result.start c.span_of-span.result.end c.args.self.now.input
+    (subst (λ (s : List ℕ). Each (λ b. b < 256) s) (ap (λ (b : Built). b.input) c.self.view_is) c.span_of-span.ensures.small)

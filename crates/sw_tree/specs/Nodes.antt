@@ -1,0 +1,63 @@
+-- The kinds of a tree's nodes by number: from 0 in preorder, a key before its value.
+use Rattle.std.specs.Prelude.{◌≡◌, ◌<◌, ℕ, suc, List, [], ◌∷◌, ◌++◌, length, false, Some, slice_get}
+use Rattle.std.proofs.Common.{refl, ap, arith, length-append}
+use Rattle.std.proofs.lemmas.Option.{slice_get_within}
+use Rattle.sw_tree.specs.Placed.{Note}
+use Rattle.sw_tree.specs.Tree.{Tree, Trees, Entries, null, truth, int, text, bytes, list, map, no_trees, tree, no_entries, entry, size, trees_size, entries_size}
+use Rattle.sw_tree.specs.declared.mode.Kind.{Kind}
+use Rattle.sw_tree.specs.declared.mode.Kind.TheVariants as kind
+use Rattle.sw_tree.specs.declared.fail.DeError.TheVariants as fail
+
+abbrev mutual
+  pub kinds : Tree → List Kind
+  kinds null = kind.Null ∷ []
+  kinds (truth b) = kind.Bool ∷ []
+  kinds (int n) = kind.Int ∷ []
+  kinds (text s) = kind.Text ∷ []
+  kinds (bytes s) = kind.Bytes ∷ []
+  kinds (list ts) = kind.List ∷ trees_kinds ts
+  kinds (map es) = kind.Map ∷ entries_kinds es
+
+  pub trees_kinds : Trees → List Kind
+  trees_kinds no_trees = []
+  trees_kinds (tree t ts) = kinds t ++ trees_kinds ts
+
+  pub entries_kinds : Entries → List Kind
+  entries_kinds no_entries = []
+  entries_kinds (entry k v es) = kinds k ++ (kinds v ++ entries_kinds es)
+
+-- the node of that number has that kind
+abbrev pub HasKind : List Kind → ℕ → Kind → Type 0
+HasKind ks n k = slice_get ks n ≡ Some k
+
+-- a note's node is one of them, and has the kind that the note says, where it doesn't come from inside a text
+pub record IsNoteIn (ks : List Kind) (n : Note) : Type 0 where
+  pub below : n.number < length ks
+  pub kind : n.inside ≡ false → (k : Kind) → n.error ≡ fail.InvalidType k → HasKind ks n.number k
+
+-- there are as many as the tree has nodes
+mutual
+  pub kinds-size : (t : Tree) → length (kinds t) ≡ size t
+  kinds-size null = refl
+  kinds-size (truth b) = refl
+  kinds-size (int n) = refl
+  kinds-size (text s) = refl
+  kinds-size (bytes s) = refl
+  kinds-size (list ts) = ap suc (trees_kinds-size ts)
+  kinds-size (map es) = ap suc (entries_kinds-size es)
+
+  pub trees_kinds-size : (ts : Trees) → length (trees_kinds ts) ≡ trees_size ts
+  trees_kinds-size no_trees = refl
+  trees_kinds-size (tree t ts) = omega (arith, length-append (kinds t) (trees_kinds ts), kinds-size t, trees_kinds-size ts)
+
+  pub entries_kinds-size : (es : Entries) → length (entries_kinds es) ≡ entries_size es
+  entries_kinds-size no_entries = refl
+  entries_kinds-size (entry k v es) =
+      omega (arith, length-append (kinds k) (kinds v ++ entries_kinds es), length-append (kinds v) (entries_kinds es), kinds-size k, kinds-size v, entries_kinds-size es)
+
+-- so a node of that kind is one of the tree's, and so is a note's node
+pub HasKind-below : (t : Tree) (n : ℕ) (k : Kind) → HasKind (kinds t) n k → n < size t
+HasKind-below t n k h = omega (arith, slice_get_within (kinds t) n k h, kinds-size t)
+
+pub IsNoteIn-below : (t : Tree) (n : Note) → IsNoteIn (kinds t) n → n.number < size t
+IsNoteIn-below t n h = omega (arith, h.below, kinds-size t)
