@@ -10,8 +10,8 @@ use Rattle.sw_json.specs.Quoted.{IsQuoted, has_escape, content, with_spelling, q
 use Rattle.sw_json.specs.QuotedParts.{spelling_in, text_in, is_escaped, parts}
 use Rattle.sw_json.specs.Unescaping.{unescaped}
 use Rattle.sw_json.specs.declared.quoted.Quoted.{Quoted}
-use Rattle.sw_json.proofs.Fronts.{split, front_passes, behind_is}
-use Rattle.sw_json.proofs.Quoting.{the_some, none_some, spelling_taken, quoted_taken, unescaped_plain, plain_has_none}
+use Rattle.sw_json.specs.Laws.Fronts.{split, front_passes, behind_is}
+use Rattle.sw_json.specs.Laws.Quoting.{the_some, none_some, spelling_taken, quoted_taken, unescaped_plain, plain_has_none}
 use Rattle.sw_json.proofs.Unescapes.{before_none, run_more, closed_there, ended_there, stuck_there}
 
 abbrev pub Shown : Type 0
@@ -124,3 +124,11 @@ pub escaped_variant : {E : Type 0} (buffer bytes back : List ℕ) (b : ℕ) (r :
     → IfOk r (λ o. option_map (λ x. parts buffer x.0 x.1.now) o ≡ quoted bytes) → IfOk r (λ o. IfSome o (λ x. is_escaped x.0 ≡ true)) → IfOk r (λ o. IfSome o (λ x. is_escaped x.0 ≡ has_escape (spelling_in x.0)))
 escaped_variant buffer bytes back b (Ok o) met e h v = is_slashed buffer bytes back b o met e h v
 escaped_variant buffer bytes back b (Err x) met e h v = tt
+
+-- ---- a text of ASCII alone
+
+pub ascii_read : (bytes text rest : List ℕ) → text ≡ front is_plain bytes → behind is_plain bytes ≡ 34 ∷ rest → IsUtf8 text → ◌≡◌ {A = Shown} (Some (text, (text, rest))) (quoted bytes)
+ascii_read bytes text rest e met u = text_read text text rest refl u ∙ closed_first bytes text rest 34 e met refl
+
+pub run_unslashed : (bytes text : List ℕ) → text ≡ front is_plain bytes → false ≡ has_escape text
+run_unslashed bytes text e = sym (plain_has_none text (ap (list_all is_plain) e ∙ front_passes is_plain bytes))

@@ -23,9 +23,9 @@ use Rattle.sw_json.specs.declared.fault.Fault.{Fault}
 use Rattle.sw_json.specs.declared.place.Place.{Place}
 use Rattle.sw_json.specs.declared.place.Place.TheVariants.{Value}
 use Rattle.sw_json.specs.declared.place.Open.{Open}
-use Rattle.sw_json.proofs.Fronts.{split}
-use Rattle.sw_json.proofs.Lexemes.{taken}
-use Rattle.sw_json.proofs.Completion as completion
+use Rattle.sw_json.specs.Laws.Fronts.{split}
+use Rattle.sw_json.specs.Laws.Lexemes.{taken}
+use Rattle.sw_json.specs.Laws.Completion as completion
 use Rattle.sw_json.proofs.Standing.{the_some, none_or_some, is_none, shape, shape_is, no_end, is_end, depth_of, depth_is, built, levels, input_is, root_side, no_root, list_can_close, map_can_close, root_built, built_step, IsFirst, first_step, root_first}
 
 -- The state that the bytes so far lead to, of which the code keeps the place, what is open, the first fault, and as long as there is none what is built.

@@ -5,15 +5,12 @@ use Rattle.std.specs.Prelude.{codes}
 use Rattle.std.specs.Fmt.{signed_decimal}
 use Rattle.sw_tree.specs.Tree.{Tree, null, truth, int, text, bytes, list, map, Trees, no_trees, tree, trees, Entries, no_entries, entry, entries}
 use Rattle.sw_tree.specs.Image.{value_image, key_image, trees_image, entries_image, numbers, next_tree, next_entry}
-use Rattle.sw_json.specs.Text.{escape_of, escaped, text_of, items_text, more_items, entries_text, more_entries, json_text}
+use Rattle.sw_json.specs.Text.{escaped, text_of, items_text, more_items, entries_text, more_entries, json_text}
+use Rattle.sw_json.specs.Laws.PrintedTexts.{escaped-append}
 use Rattle.sw_json.specs.Pushed.{joined, entry_text, more_items_text, more_entries_text}
 
 regroup : (a b c : List ℕ) → (a ++ b) ++ c ≡ a ++ (b ++ c)
 regroup a b c = rw append_assoc refl
-
-pub escaped-append : (s k l : List ℕ) → escaped s (k ++ l) ≡ escaped s k ++ l
-escaped-append [] k l = refl
-escaped-append (b ∷ bs) k l = ap (λ r. escape_of b ++ r) (escaped-append bs k l) ∙ sym (regroup (escape_of b) (escaped bs k) l)
 
 mutual
   pub text_of-append : (t : Tree) (k l : List ℕ) → text_of t (k ++ l) ≡ text_of t k ++ l

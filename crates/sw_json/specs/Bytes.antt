@@ -1,17 +1,11 @@
 -- Classes of bytes, and runs of bytes.
 use Rattle.std.specs.Prelude.{◌≡◌, ℕ, List, [], ◌∷◌, Bool, not, ◌||◌, ◌&&◌, ◌==◌, nat_le, false, Option, Some, None, if◌then◌else◌}
+-- DIGIT and digit1-9, section 6
+unfoldable pub use Rattle.sw_tree.specs.Number.{is_digit, is_leading}
 
 -- ws (RFC 8259, section 2): a space, a tab, a line feed or a carriage return
 unfoldable pub is_blank : ℕ → Bool
 is_blank b = (b == 32) || (b == 9) || (b == 10) || (b == 13)
-
--- DIGIT, section 6
-unfoldable pub is_digit : ℕ → Bool
-is_digit b = nat_le 48 b && nat_le b 57
-
--- digit1-9, section 6
-unfoldable pub is_leading : ℕ → Bool
-is_leading b = nat_le 49 b && nat_le b 57
 
 -- what a number is made of, section 6: digits, signs, a point, and the letters e and E
 unfoldable pub is_number_byte : ℕ → Bool

@@ -5,10 +5,7 @@ use Rattle.sw_json.specs.Token.{Token}
 use Rattle.sw_json.specs.Bytes.{is_digit, is_leading, is_number_byte, front, behind, behind_word}
 use Rattle.sw_json.specs.Quoted.{quoted}
 use Rattle.sw_json.specs.Grammar.{skip}
-
-abbrev pub is_empty : List ℕ → Bool
-is_empty [] = true
-is_empty (b ∷ bs) = false
+pub use Rattle.sw_tree.specs.Number.{is_empty}
 
 -- digits are zero, or the first of them isn't zero
 abbrev pub is_int : List ℕ → Bool

@@ -2,6 +2,7 @@ pub mod Token
 pub mod Raw
 pub mod Bytes
 pub mod Class
+pub mod Plain
 pub mod Quoted
 pub mod QuotedParts
 pub mod Unescaping
@@ -17,4 +18,5 @@ pub mod Lexeme
 pub mod Place
 pub mod Building
 pub mod Pushed
-pub mod Imaged
+pub mod Images
+pub mod Laws

@@ -38,9 +38,7 @@ fn build(
             builder.text(start, start + text.len())?;
         }
         Lexeme::Text(Quoted::Escaped(_)) => {
-            let Ok(text) = simdutf8::basic::from_utf8(buffer) else {
-                unreachable!();
-            };
+            let text = unsafe { std::str::from_utf8_unchecked(buffer) };
             builder.copied(text)?;
         }
         Lexeme::OpenList => {

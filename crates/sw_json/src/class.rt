@@ -14,8 +14,6 @@ pub enum Class {
     Digit,
     /// What numbers are made of.
     NumberByte,
-    /// What stands for itself in a text.
-    Plain,
 }
 
 #[inline(always)]
@@ -43,14 +41,6 @@ fn is_number_byte(byte: u8) -> bool
 }
 
 #[inline(always)]
-#[tactic(auto, unfolding(crate::specs::Bytes::is_plain))]
-fn is_plain(byte: u8) -> bool
-    ensures { result ≡ tests.is_plain byte }
-{
-    b' ' <= byte && !(byte == b'"' || byte == b'\\')
-}
-
-#[inline(always)]
 fn passes(class: Class, byte: u8) -> bool
     ensures { result ≡ test_of class byte }
 {
@@ -58,7 +48,6 @@ fn passes(class: Class, byte: u8) -> bool
         Class::Blank => is_blank(byte),
         Class::Digit => is_digit(byte),
         Class::NumberByte => is_number_byte(byte),
-        Class::Plain => is_plain(byte),
     }
 }
 

@@ -4,12 +4,16 @@
 mod building;
 mod class;
 mod fault;
+mod leaf;
 mod lexer;
 mod number;
 mod place;
+mod plain;
 mod print;
+mod print_view;
 mod quoted;
 mod reader;
+mod shown;
 pub mod spelling;
 pub mod wire;
 

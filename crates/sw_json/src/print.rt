@@ -1,16 +1,17 @@
-ghost use Rattle.std.specs.Prelude.{◌≡◌, ◌∷◌, ◌++◌, [], Some, option_map, pos, ◌<◌};
-ghost use Rattle.std.specs.Bool.{OnTrue};
-ghost use Rattle.std.specs.Char.{digit_char};
-ghost use Rattle.std.specs.Fmt.{signed_decimal};
-ghost use Rattle.sw_tree.specs.Tree.{null, truth, int, text, bytes, list, map, trees, entries};
-ghost use Rattle.sw_tree.specs.Image.{numbers};
+//! The text of a node.
+
+ghost use Rattle.std.specs.Prelude.{◌≡◌};
+ghost use Rattle.sw_tree.specs.Tree.{list, map, trees, entries};
 ghost use Rattle.sw_tree.specs.Wires.{IsPrinted};
-ghost use Rattle.sw_json.specs.Text.{escape_of, escaped, text_of, more_items, json_text, key_text};
+ghost use Rattle.sw_json.specs.Text.{json_text, key_text};
 ghost use Rattle.sw_json.specs.Pushed.{IsPushed, entry_text, more_items_text, more_entries_text};
 
-use itoa::Buffer;
+use crate::leaf::{
+    append, push_bool, push_bool_key, push_bytes, push_number, push_number_key, push_text,
+};
+use crate::print_view::push_view;
 use std::alloc::Global;
-use sw_tree::{Node, PrintError, Whole};
+use sw_tree::{Content, Node, PrintError};
 
 /// The compact JSON text of a tree (RFC 8259): no whitespace, numbers in decimal, and in texts only `"`, `\`
 /// and the characters below U+0020 escaped, by `\b`, `\f`, `\n`, `\r` and `\t` where there is such an escape,
@@ -30,25 +31,15 @@ pub fn print(alloc: Global, node: &Node) -> Result<Vec<u8>, PrintError>
 fn push_node(out: &mut Vec<u8>, node: &Node) -> Result<(), PrintError>
     ensures { IsPushed result out.old.items out.new.items (json_text node.now) }
 {
-    if let Some(text) = node.as_text() {
-        return push_text(out, text);
-    }
-    if let Some(number) = node.as_int() {
-        return push_number(out, number);
-    }
-    if let Some(items) = node.items() {
-        return push_list(out, items);
-    }
-    if let Some(entries) = node.entries() {
-        return push_map(out, entries);
-    }
-    if let Some(bytes) = node.as_bytes() {
-        return push_bytes(out, bytes);
-    }
-    match node.as_bool() {
-        Some(true) => append(out, b"true"),
-        Some(false) => append(out, b"false"),
-        None => append(out, b"null"),
+    match node.content() {
+        Content::Null => append(out, b"null"),
+        Content::Bool(value) => push_bool(out, value),
+        Content::Int(number) => push_number(out, number),
+        Content::Text(text) => push_text(out, text),
+        Content::Bytes(bytes) => push_bytes(out, bytes),
+        Content::List(items) => push_list(out, items),
+        Content::Map(entries) => push_map(out, entries),
+        Content::Document(view) => push_view(out, view),
     }
 }
 
@@ -120,143 +111,19 @@ fn push_key(out: &mut Vec<u8>, key: &Node) -> Result<(), PrintError>
         return push_text(out, text);
     }
     if let Some(number) = key.as_int() {
-        let mut digits = Buffer::new();
-        return push_text(out, number.format(&mut digits));
+        return push_number_key(out, number);
     }
     match key.as_bool() {
-        Some(true) => push_text(out, "true"),
-        Some(false) => push_text(out, "false"),
+        Some(value) => push_bool_key(out, value),
         None => Err(PrintError::Key),
     }
-}
-
-fn push_number(out: &mut Vec<u8>, number: Whole) -> Result<(), PrintError>
-    ensures { IsPushed result out.old.items out.new.items (json_text (int number)) }
-{
-    let mut digits = Buffer::new();
-    append(out, number.format(&mut digits).as_bytes())
-}
-
-/// Appends the list of these numbers.
-fn push_bytes(out: &mut Vec<u8>, values: &[u8]) -> Result<(), PrintError>
-    ensures { IsPushed result out.old.items out.new.items (json_text (bytes values.now)) }
-{
-    append(out, b"[")?;
-    match values.split_first() {
-        None => append(out, b"]"),
-        Some((first, rest)) => {
-            push_byte(out, *first)?;
-            push_more_bytes(out, rest)
-        }
-    }
-}
-
-/// Appends the numbers behind the first, each behind a comma, and the closing bracket.
-fn push_more_bytes(out: &mut Vec<u8>, values: &[u8]) -> Result<(), PrintError>
-    ensures { IsPushed result out.old.items out.new.items
-        (Some (more_items (numbers values.now) [])) }
-{
-    for value in values {
-        append(out, b",")?;
-        push_byte(out, *value)?;
-    }
-    append(out, b"]")
-}
-
-fn push_byte(out: &mut Vec<u8>, value: u8) -> Result<(), PrintError>
-    ensures { IsPushed result out.old.items out.new.items (json_text (int (pos value))) }
-{
-    let mut digits = Buffer::new();
-    append(out, digits.format(value).as_bytes())
-}
-
-/// Appends the text between its quotes.
-fn push_text(out: &mut Vec<u8>, content: &str) -> Result<(), PrintError>
-    ensures { IsPushed result out.old.items out.new.items (json_text (text content.now)) }
-{
-    append(out, b"\"")?;
-    push_escaped(out, content.as_bytes())?;
-    append(out, b"\"")
-}
-
-/// Appends the bytes of a text, those that need no escape in runs.
-fn push_escaped(out: &mut Vec<u8>, content: &[u8]) -> Result<(), PrintError>
-    ensures { IsPushed result out.old.items out.new.items (Some (escaped content.now [])) }
-{
-    let mut start = 0;
-    for (index, byte) in content.iter().enumerate() {
-        if stands_for_itself(*byte) {
-            continue;
-        }
-        append(out, &content[start..index])?;
-        push_escape(out, *byte)?;
-        start = index + 1;
-    }
-    append(out, &content[start..])
-}
-
-#[inline]
-#[tactic(auto, unfolding(crate::specs::Text::escape_of))]
-fn stands_for_itself(byte: u8) -> bool
-    ensures { OnTrue result (escape_of byte ≡ byte ∷ []) }
-{
-    byte >= 0x20 && byte != b'"' && byte != b'\\'
-}
-
-#[tactic(auto, unfolding(crate::specs::Text::escape_of))]
-fn push_escape(out: &mut Vec<u8>, byte: u8) -> Result<(), PrintError>
-    ensures { IsPushed result out.old.items out.new.items (Some (escape_of byte)) }
-{
-    match byte {
-        b'"' => append(out, b"\\\""),
-        b'\\' => append(out, b"\\\\"),
-        0x08 => append(out, b"\\b"),
-        0x0c => append(out, b"\\f"),
-        b'\n' => append(out, b"\\n"),
-        b'\r' => append(out, b"\\r"),
-        b'\t' => append(out, b"\\t"),
-        0..0x20 => append(
-            out,
-            &[
-                b'\\',
-                b'u',
-                b'0',
-                b'0',
-                hex_digit(byte / 16),
-                hex_digit(byte % 16),
-            ],
-        ),
-        _ => append(out, &[byte]),
-    }
-}
-
-/// A lower-case hexadecimal digit.
-fn hex_digit(value: u8) -> u8
-    requires { value < 16 }
-    ensures { result ≡ digit_char value }
-{
-    if value < 10 {
-        b'0' + value
-    } else {
-        b'a' - 10 + value
-    }
-}
-
-/// Appends these bytes. The one refusal is `Memory`.
-#[inline]
-fn append(out: &mut Vec<u8>, bytes: &[u8]) -> Result<(), PrintError>
-    ensures { IsPushed result out.old.items out.new.items (Some bytes.now) }
-{
-    if out.extend_from_slice(bytes).is_err() {
-        return Err(PrintError::Memory);
-    }
-    Ok(())
 }
 
 #[cfg(test)]
 mod tests {
     use super::*;
     use std::alloc::AllocError;
+    use sw_tree::Whole;
 
     fn text(alloc: Global, content: &str) -> Result<Node, AllocError> {
         Ok(Node::text(String::from_str(alloc, content)?))

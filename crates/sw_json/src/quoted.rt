@@ -8,7 +8,7 @@ ghost use Rattle.sw_json.specs.Quoted.{hex, hex_at, low_at, unit_at, escape_at, 
 ghost use Rattle.sw_json.specs.QuotedParts.{spelling_in, text_in, is_escaped, parts};
 ghost use Rattle.sw_json.specs.Unescaping.{unescaped};
 
-use crate::class::{Class, split_class};
+use crate::plain::{split_ascii_text, split_plain};
 use std::alloc::AllocError;
 
 /// A text that stood between quotation marks.
@@ -125,7 +125,7 @@ fn unescape<'a>(out: &mut Vec<u8>, bytes: &'a [u8]) -> Result<Option<&'a [u8]>, 
 {
     let mut rest = bytes;
     'runs: loop {
-        let (run, behind) = split_class(rest, Class::Plain);
+        let (run, behind) = split_plain(rest);
         out.extend_from_slice(run)?;
         let Some((first, after)) = behind.split_first() else {
             return Ok(None);
@@ -194,8 +194,25 @@ pub(crate) fn read_quoted<'a>(
     ensures utf8 { IfOk result (λ o. IfSome o (λ x. IsUtf8 (text_in buffer.new.items x.0))) }
     ensures variant { IfOk result (λ o. IfSome o (λ x. is_escaped x.0 ≡ has_escape (spelling_in x.0))) }
 {
+    if let Some((text, rest)) = split_ascii_text(bytes) {
+        return Ok(Some((Quoted::Plain(text), rest)));
+    }
+    read_by_runs(buffer, bytes)
+}
+
+/// The same of any text.
+#[inline(never)]
+fn read_by_runs<'a>(
+    buffer: &mut Vec<u8>,
+    bytes: &'a [u8],
+) -> Result<Option<(Quoted<'a>, &'a [u8])>, AllocError>
+    ensures value { IfOk result (λ o. option_map (λ x. parts buffer.new.items x.0 x.1.now) o
+        ≡ quoted bytes.now) }
+    ensures utf8 { IfOk result (λ o. IfSome o (λ x. IsUtf8 (text_in buffer.new.items x.0))) }
+    ensures variant { IfOk result (λ o. IfSome o (λ x. is_escaped x.0 ≡ has_escape (spelling_in x.0))) }
+{
     buffer.clear();
-    let (run, behind) = split_class(bytes, Class::Plain);
+    let (run, behind) = split_plain(bytes);
     let Some((first, rest)) = behind.split_first() else {
         return Ok(None);
     };

@@ -14,6 +14,9 @@ use sw_tree::builder::DocBuilder;
 use sw_tree::doc::Doc;
 use sw_tree::fail::WireError;
 
+/// A text has usually no more nodes than one for so many bytes, for which room is taken ahead.
+const USUAL: usize = 8;
+
 /// The document of a JSON text (RFC 8259). Each text of the document is a part of the
 /// bytes, but for one that is spelled with escapes, of which it keeps a copy.
 ///
@@ -33,6 +36,9 @@ pub fn read_tree<'de>(alloc: Global, bytes: &'de [u8]) -> Result<Doc<'de>, WireE
     let mut fault = None;
     let mut buffer = Vec::new(alloc);
     let mut builder = DocBuilder::new(alloc, bytes);
+    if builder.reserve(bytes.len() / USUAL).is_err() {
+        return Err(WireError::Memory);
+    }
     'tokens: loop {
         let (_, ahead) = split_class(rest, Class::Blank);
         if ahead.is_empty() {

@@ -10,7 +10,8 @@ ghost use Rattle.sw_json.specs.Raw.{Raw};
 ghost use Rattle.sw_json.specs.Grammar.{Spells};
 ghost use Rattle.sw_json.specs.Spelled.{SpellsTree, IsCause, spelled};
 ghost use Rattle.sw_json.specs.Text.{text_of, json_text};
-ghost use Rattle.sw_json.specs.Imaged.{IsLawful, IsImaged};
+ghost use Rattle.sw_tree.specs.Proper.{IsProper};
+ghost use Rattle.sw_json.specs.Images.{IsImage};
 
 /// Given bytes spell at most one raw tree at an offset.
 pub fn at_most_one_tree()
@@ -29,12 +30,12 @@ pub fn spelled_is_the_grammar()
 /// levels, its numbers are from -2^127 to 2^128 - 1, its texts and keys are UTF-8, and no
 /// byte string is in it.
 pub fn printed_text_spells_the_tree()
-    ensures { (t : Tree) → IsImaged t → depth t ≤ 128 → spelled (text_of t []) ≡ Ok t }
+    ensures { (t : Tree) → IsImage t → depth t ≤ 128 → spelled (text_of t []) ≡ Ok t }
 {}
 
-/// The image in JSON of a lawful tree is such a tree, and has no more levels; so what a
-/// lawful tree of at most 128 levels prints as spells its image.
+/// The image in JSON of a proper tree is such a tree, and has no more levels; so what a
+/// proper tree of at most 128 levels prints as spells its image.
 pub fn printed_text_spells_the_image()
-    ensures imaged { (t i : Tree) → IsLawful t → image Json Value t ≡ Some i → IsImaged i × (depth i ≤ depth t) }
-    ensures spells { (t : Tree) (s : List ℕ) → IsLawful t → depth t ≤ 128 → json_text t ≡ Some s → (i : Tree) × (image Json Value t ≡ Some i) × (spelled s ≡ Ok i) }
+    ensures imaged { (t i : Tree) → IsProper t → image Json Value t ≡ Some i → IsImage i × (depth i ≤ depth t) }
+    ensures spells { (t : Tree) (s : List ℕ) → IsProper t → depth t ≤ 128 → json_text t ≡ Some s → (i : Tree) × (image Json Value t ≡ Some i) × (spelled s ≡ Ok i) }
 {}

@@ -15,6 +15,7 @@ impl Wire for JsonWire {
     ghost use Rattle.sw_tree.specs.declared.mode.WireKind.TheVariants.{Json};
     ghost use Rattle.sw_json.specs.Spelled.{spelled, SpellsTree, HasEscaped, IsRefused};
     ghost use Rattle.sw_json.specs.Text.{json_text};
+    ghost use Rattle.sw_json.specs.Laws.PrintedImages.{prints_images};
 
     const ID: WireKind = WireKind::Json;
 
@@ -23,6 +24,8 @@ impl Wire for JsonWire {
     ghost spelled = { spelled };
 
     ghost printed = { json_text };
+
+    ghost prints_images = { prints_images };
 
     /// The document of a JSON text (RFC 8259). Each text of the document is a part of the
     /// bytes, but for one that is spelled with escapes, of which it keeps a copy.

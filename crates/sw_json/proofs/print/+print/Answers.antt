@@ -5,7 +5,8 @@ use Rattle.sw_json.specs.Text.{json_text}
 use Rattle.sw_json.specs.Pushed.{IsPushed, entry_text, more_items_text, more_entries_text}
 use Rattle.sw_json.proofs.Pushing.{onto-three, pushed-moved, turn}
 use Rattle.sw_json.proofs.Texts.{list_text, map_text, more_text, behind_text}
-use Rattle.sw_json.proofs.Children.{list_is, map_is, item_depth, entry_depth}
+use Rattle.sw_tree.specs.Content.{content_tree}
+use Rattle.sw_json.proofs.Children.{item_depth, entry_depth}
 use Rattle.sw_json.proofs.print.+print.Goals as goal
 
 pub push_list-returns-in_ok-push_node-in-Some : goal.push_list-returns-in_ok-push_node-in-Some
@@ -46,16 +47,8 @@ push_more_items-loop-item-preserved t c =
 
 pub push_node-push_list-requires : goal.push_node-push_list-requires
 push_node-push_list-requires t c =
-    (omega (arith, c.decreases, ap depth (list_is c.args.node.now c.in-Some-items.items.now c.in-Some-items.ensures)), tt)
-
-pub push_node-returns-in-Some-items : goal.push_node-returns-in-Some-items
-push_node-returns-in-Some-items t c =
-    subst (λ n. IsPushed c.push_list.result c.args.out.now.items c.push_list.new.out.items (json_text n)) (sym (list_is c.args.node.now c.in-Some-items.items.now c.in-Some-items.ensures)) c.push_list.ensures
+    (omega (arith, c.decreases, ap depth (ap content_tree (sym c.in-List.is) ∙ c.content.ensures)), tt)
 
 pub push_node-push_map-requires : goal.push_node-push_map-requires
 push_node-push_map-requires t c =
-    (omega (arith, c.decreases, ap depth (map_is c.args.node.now c.in-Some-entries.entries.now c.in-Some-entries.ensures)), tt)
-
-pub push_node-returns-in-Some-entries : goal.push_node-returns-in-Some-entries
-push_node-returns-in-Some-entries t c =
-    subst (λ n. IsPushed c.push_map.result c.args.out.now.items c.push_map.new.out.items (json_text n)) (sym (map_is c.args.node.now c.in-Some-entries.entries.now c.in-Some-entries.ensures)) c.push_map.ensures
+    (omega (arith, c.decreases, ap depth (ap content_tree (sym c.in-Map.is) ∙ c.content.ensures)), tt)

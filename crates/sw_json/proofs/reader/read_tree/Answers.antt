@@ -8,7 +8,7 @@ use Rattle.sw_json.specs.Grammar.{skip}
 use Rattle.sw_json.specs.Lexeme.{token_of}
 use Rattle.sw_json.specs.Spelled.{spelled}
 use Rattle.sw_json.specs.declared.lexer.Lexeme.{Lexeme}
-use Rattle.sw_json.proofs.Completion.{shorter, tree_spelled, err_spelled, refused_by}
+use Rattle.sw_json.specs.Laws.Completion.{shorter, tree_spelled, err_spelled, refused_by}
 use Rattle.sw_json.proofs.Standing.{the_some}
 use Rattle.sw_json.proofs.Stands as stands
 use Rattle.sw_json.proofs.reader.read_tree.Goals as goal
@@ -18,7 +18,7 @@ abbrev told : List ℕ → ℕ → Lexeme × Bor (List ℕ) → Token × List �
 told buffer at x = (token_of buffer at x.0, x.1.now)
 
 pub tokens-init : goal.tokens-init
-tokens-init c = rw (c.new-levels.ensures.items, c.new-builder.ensures) (stands.at_start c.args.bytes.now)
+tokens-init c = rw (c.new-levels.ensures.items, c.reserve.ensures, c.new-builder.ensures) (stands.at_start c.args.bytes.now)
 
 pub returns-in_default-token-clause-found : goal.returns-in_default-token-clause-found
 returns-in_default-token-clause-found c =

@@ -1,8 +1,8 @@
-use Rattle.sw_json.proofs.PrintedImages.{image_imaged, printed_image}
+use Rattle.sw_json.specs.Laws.PrintedImages.{image_is, printed_image}
 use Rattle.sw_json.proofs.spelling.printed_text_spells_the_image.Goals as goal
 
 pub returns-clause-imaged : goal.returns-clause-imaged
-returns-clause-imaged c = image_imaged
+returns-clause-imaged c = image_is
 
 pub returns-clause-spells : goal.returns-clause-spells
 returns-clause-spells c = printed_image

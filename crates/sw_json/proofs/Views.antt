@@ -1,0 +1,44 @@
+-- What a view of a known kind shows.
+use Rattle.std.proofs.Common.{◌≡◌, ℕ, Bool, List, [], ◌∷◌, Some, refl, ap, sym, ◌∙◌}
+use Rattle.sw_tree.specs.Tree.{Tree, null, truth, int, text, bytes, list, map, trees, items, entries, pairs, trees-items, entries-pairs}
+use Rattle.sw_tree.specs.Seen.{Seen, row, entry_row, behind, place_at, items_seen, entries_seen, trees_of, pairs_of}
+
+trees_of-row : (c : Bool) (p : ℕ) (ts : List Tree) → trees_of (row c p ts) ≡ ts
+trees_of-row c p [] = refl
+trees_of-row c p (t ∷ ts) = ap (λ r. t ∷ r) (trees_of-row c (behind c p t) ts)
+
+pairs_of-row : (c : Bool) (p : ℕ) (es : List (Tree × Tree)) → pairs_of (entry_row c p es) ≡ es
+pairs_of-row c p [] = refl
+pairs_of-row c p (e ∷ es) = ap (λ r. e ∷ r) (pairs_of-row c (behind c (behind c p e.0) e.1) es)
+
+list_at : (t : Tree) (p : ℕ) (c : Bool) (xs : List Seen) → Some xs ≡ items_seen (record { tree = t; place = p; counts = c }) → t ≡ list (trees (trees_of xs))
+list_at null p c xs h = cc
+list_at (truth b) p c xs h = cc
+list_at (int n) p c xs h = cc
+list_at (text s) p c xs h = cc
+list_at (bytes s) p c xs h = cc
+list_at (list ts) p c xs h =
+    let q = place_at (record { tree = list ts; place = p; counts = c }) 1 in
+    let e : xs ≡ row c q (items ts) = cc in
+    sym (ap (λ ss. list (trees (trees_of ss))) e ∙ ap (λ us. list (trees us)) (trees_of-row c q (items ts)) ∙ ap list (trees-items ts))
+list_at (map es) p c xs h = cc
+
+pub list_shown : (s : Seen) (xs : List Seen) → Some xs ≡ items_seen s → s.tree ≡ list (trees (trees_of xs))
+list_shown s xs h = list_at s.tree s.place s.counts xs h
+
+map_at : (t : Tree) (p : ℕ) (c : Bool) (xs : List (Seen × Seen)) → Some xs ≡ entries_seen (record { tree = t; place = p; counts = c }) → t ≡ map (entries (pairs_of xs))
+map_at null p c xs h = cc
+map_at (truth b) p c xs h = cc
+map_at (int n) p c xs h = cc
+map_at (text s) p c xs h = cc
+map_at (bytes s) p c xs h = cc
+map_at (list ts) p c xs h = cc
+map_at (map es) p c xs h =
+    let q = place_at (record { tree = map es; place = p; counts = c }) 1 in
+    let e : xs ≡ entry_row c q (pairs es) = cc in
+    sym (ap (λ ss. map (entries (pairs_of ss))) e ∙ ap (λ us. map (entries us)) (pairs_of-row c q (pairs es)) ∙ ap map (entries-pairs es))
+
+pub map_shown : (s : Seen) (xs : List (Seen × Seen)) → Some xs ≡ entries_seen s → s.tree ≡ map (entries (pairs_of xs))
+map_shown s xs h = map_at s.tree s.place s.counts xs h
+
+pub ruleset shown = (list_shown, map_shown)

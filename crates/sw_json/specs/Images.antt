@@ -1,0 +1,28 @@
+-- Which trees are images in JSON: there is no byte string, and each key is a text.
+use Rattle.std.specs.Str.{IsUtf8}
+use Rattle.sw_tree.specs.NumberLaws.{IsInRange}
+use Rattle.sw_tree.specs.Tree.{Tree, null, truth, int, text, bytes, list, map, Trees, no_trees, tree, Entries, no_entries, entry}
+
+-- a text that is UTF-8
+abbrev pub IsKey : Tree → Type 0
+IsKey (text s) = IsUtf8 s
+IsKey _ = ⊥
+
+-- Numbers are within range, texts are UTF-8, there is no byte string, keys are texts, and so it is in lists and maps.
+abbrev mutual
+  pub IsImage : Tree → Type 0
+  IsImage null = Unit {0}
+  IsImage (truth b) = Unit {0}
+  IsImage (int n) = IsInRange n
+  IsImage (text s) = IsUtf8 s
+  IsImage (bytes s) = ⊥
+  IsImage (list ts) = AreImages ts
+  IsImage (map es) = AreImageEntries es
+
+  pub AreImages : Trees → Type 0
+  AreImages no_trees = Unit {0}
+  AreImages (tree t ts) = IsImage t × AreImages ts
+
+  pub AreImageEntries : Entries → Type 0
+  AreImageEntries no_entries = Unit {0}
+  AreImageEntries (entry key value es) = IsKey key × IsImage value × AreImageEntries es

@@ -1,0 +1,11 @@
+-- What follows from the definitions, with the proofs. No definition stands on these.
+pub mod Fronts
+pub mod Numbers
+pub mod Quoting
+pub mod Lexemes
+pub mod Structure
+pub mod Completion
+pub mod PrintedTexts
+pub mod PrintedNumbers
+pub mod Printed
+pub mod PrintedImages
