@@ -1,0 +1,19 @@
+-- What a handful of children shows.
+use Rattle.std.specs.Prelude.{◌≤◌, length}
+use Rattle.sw_check.specs.Form.{forms}
+use Rattle.sw_check.specs.Checked.{Checked, none, one, two, each}
+use Rattle.sw_check.specs.declared.children.Children.{Children}
+use Rattle.sw_check.specs.declared.children.Children.TheVariants as children
+
+abbrev pub shown : Children → Checked
+shown children.None = none
+shown (children.One n p m) = one n p.now m
+shown (children.Two p m q n) = two p.now m q.now n
+shown (children.Each ps m) = each (forms ps.now) m
+
+-- so few that their numbers fit 16 bits
+abbrev pub IsFew : Children → Type 0
+IsFew children.None = Unit {0}
+IsFew (children.One n p m) = Unit {0}
+IsFew (children.Two p m q n) = Unit {0}
+IsFew (children.Each ps m) = length ps.now ≤ 65535
