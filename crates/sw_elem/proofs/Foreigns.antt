@@ -1,18 +1,18 @@
 -- The first node that an `Any` doesn't hold, from the items and entries that a view shows.
 use Rattle.std.proofs.Common.{◌≡◌, ℕ, zero, suc, ◌<◌, ◌≤◌, max, Bool, true, false, List, [], ◌∷◌, length, get_or, Option, Some, None, Ok, Err, refl, ap, sym, ◌∙◌, arith}
-use Rattle.std.specs.Prelude.{option_map}
+use Rattle.std.specs.Prelude.{option_map, is_none}
 use Rattle.std.specs.Option.{option_or}
 use Rattle.sw_tree.specs.Meaning.{Meaning}
 use Rattle.sw_tree.specs.Meaning as meaning
-use Rattle.sw_tree.specs.Tree.{Tree, null, truth, int, text, bytes, list, map, Trees, no_trees, tree, Entries, no_entries, entry, trees, items, entries, pairs, items_at, pairs_at, bytes_at, size, depth, trees_depth, entries_depth, trees-items, entries-pairs}
+use Rattle.sw_tree.specs.Tree.{Tree, null, truth, int, text, bytes, list, map, Trees, no_trees, tree, Entries, no_entries, entry, trees, items, entries, pairs, bytes_at, size, depth, trees_depth, entries_depth, trees-items, entries-pairs}
 use Rattle.sw_tree.specs.Seen.{Seen, place_at, behind, row, entry_row, items_seen, entries_seen, trees_of, pairs_of}
 use Rattle.sw_tree.specs.Placed.{placed}
 use Rattle.sw_tree.specs.declared.mode.Mode.{Mode}
 use Rattle.sw_tree.specs.declared.mode.Kind.TheVariants as kind
 use Rattle.sw_tree.specs.declared.fail.DeError.TheVariants as fail
 use Rattle.sw_tree.specs.declared.fail.Refusal.{Refusal}
-use Rattle.sw_elem.specs.Foreign.{is_any, are_any, are_any_keyed, Foreign, further, foreign_key, foreign, foreign_items, foreign_entries, any_reads, any_spot}
-use Rattle.sw_elem.specs.ForeignLaws.{none_foreign}
+use Rattle.sw_elem.specs.Foreign.{is_any, Foreign, further, foreign_key, foreign, foreign_items, foreign_entries, any_reads, any_spot}
+use Rattle.sw_elem.specs.ForeignLaws.{any_foreign, none_foreign}
 use Rattle.sw_elem.specs.ForeignSeen.{refusal_of, foreign_seen, foreign_each, foreign_each_entry}
 
 abbrev at : Bool → ℕ → Tree → Seen
@@ -165,63 +165,15 @@ entry_levels_there (map es) p c xs h =
 pub entries_levels : (s : Seen) (xs : List (Seen × Seen)) → Some xs ≡ entries_seen s → depth s.tree ≡ suc (entries_depth (entries (pairs_of xs)))
 entries_levels s xs h = entry_levels_there s.tree s.place s.counts xs h
 
--- ---- nodes, by their items and entries
+-- ---- nodes, by their content
 
-pub is_any-list : (t : Tree) (ts : List Tree) → Some ts ≡ items_at t → is_any t ≡ are_any (trees ts)
-is_any-list null ts h = absurd (cc)
-is_any-list (truth b) ts h = absurd (cc)
-is_any-list (int n) ts h = absurd (cc)
-is_any-list (text s) ts h = absurd (cc)
-is_any-list (bytes s) ts h = absurd (cc)
-is_any-list (list us) ts h = let e : ts ≡ items us = cc in sym (ap (λ vs. are_any (trees vs)) e ∙ ap are_any (trees-items us))
-is_any-list (map es) ts h = absurd (cc)
+none_seen : (s : Seen) (o : Option Foreign) → is_none (option_map (refusal_of s) o) ≡ is_none o
+none_seen s None = refl
+none_seen s (Some f) = refl
 
-pub is_any-map : (t : Tree) (es : List (Tree × Tree)) → Some es ≡ pairs_at t → is_any t ≡ are_any_keyed (entries es)
-is_any-map null es h = absurd (cc)
-is_any-map (truth b) es h = absurd (cc)
-is_any-map (int n) es h = absurd (cc)
-is_any-map (text s) es h = absurd (cc)
-is_any-map (bytes s) es h = absurd (cc)
-is_any-map (list us) es h = absurd (cc)
-is_any-map (map fs) es h = let e : es ≡ pairs fs = cc in sym (ap (λ vs. are_any_keyed (entries vs)) e ∙ ap are_any_keyed (entries-pairs fs))
-
-pub is_any-bytes : (t : Tree) (b : List ℕ) → Some b ≡ bytes_at t → is_any t ≡ false
-is_any-bytes null b h = absurd (cc)
-is_any-bytes (truth x) b h = absurd (cc)
-is_any-bytes (int n) b h = absurd (cc)
-is_any-bytes (text s) b h = absurd (cc)
-is_any-bytes (bytes s) b h = refl
-is_any-bytes (list us) b h = absurd (cc)
-is_any-bytes (map es) b h = absurd (cc)
-
-pub is_any-leaf : (t : Tree) → None ≡ items_at t → None ≡ pairs_at t → None ≡ bytes_at t → is_any t ≡ true
-is_any-leaf null f g h = refl
-is_any-leaf (truth x) f g h = refl
-is_any-leaf (int n) f g h = refl
-is_any-leaf (text s) f g h = refl
-is_any-leaf (bytes s) f g h = absurd (cc)
-is_any-leaf (list us) f g h = absurd (cc)
-is_any-leaf (map es) f g h = absurd (cc)
-
-pub ruleset any_nodes = (is_any-list, is_any-map, is_any-bytes, is_any-leaf)
-
-pub list_levels : (t : Tree) (ts : List Tree) → Some ts ≡ items_at t → depth t ≡ suc (trees_depth (trees ts))
-list_levels null ts h = absurd (cc)
-list_levels (truth b) ts h = absurd (cc)
-list_levels (int n) ts h = absurd (cc)
-list_levels (text s) ts h = absurd (cc)
-list_levels (bytes s) ts h = absurd (cc)
-list_levels (list us) ts h = let e : ts ≡ items us = cc in ap suc (sym (ap (λ vs. trees_depth (trees vs)) e ∙ ap trees_depth (trees-items us)))
-list_levels (map es) ts h = absurd (cc)
-
-pub map_levels : (t : Tree) (es : List (Tree × Tree)) → Some es ≡ pairs_at t → depth t ≡ suc (entries_depth (entries es))
-map_levels null es h = absurd (cc)
-map_levels (truth b) es h = absurd (cc)
-map_levels (int n) es h = absurd (cc)
-map_levels (text s) es h = absurd (cc)
-map_levels (bytes s) es h = absurd (cc)
-map_levels (list us) es h = absurd (cc)
-map_levels (map fs) es h = let e : es ≡ pairs fs = cc in ap suc (sym (ap (λ vs. entries_depth (entries vs)) e ∙ ap entries_depth (entries-pairs fs)))
+-- a node that shows none is held
+pub any_seen : (s : Seen) → is_any s.tree ≡ is_none (foreign_seen s)
+any_seen s = any_foreign s.tree ∙ sym (none_seen s (foreign s.tree))
 
 pub item_levels : (ts : List Tree) (k : ℕ) (d t : Tree) → k < length ts → t ≡ get_or ts k d → depth t ≤ trees_depth (trees ts)
 item_levels [] k d t h e = absurd (omega arith)

@@ -1,3 +1,4 @@
 pub mod Decimal
 pub mod KeyTexts
 pub mod Foreigns
+pub mod KindSets

@@ -14,6 +14,9 @@ use Rattle.std.proofs.lemmas.Fmt.{decimal_is_IsNumeral_wide}
 use Rattle.std.proofs.lemmas.Str.Parse.{IsNumeralModel, numerals_by_value, tells_all_ascii_digits, not_in_digits, without_leading_plus_none}
 use Rattle.sw_tree.specs.Meaning.{Meaning, number}
 use Rattle.sw_tree.specs.Meant.{unsigned_meaning, IsBelow, IsSigned}
+use Rattle.sw_check.specs.TextClass.{IsOfClass}
+use Rattle.sw_elem.specs.Classes.{digit_class, signed_class}
+use Rattle.sw_elem.specs.ClassLaws.{digits_classed, signed_classed}
 use Rattle.sw_elem.specs.Text.{LawfulText}
 use Rattle.sw_elem.specs.Numbers.{is_within}
 use Rattle.sw_elem.specs.Decimal.{decimal_shows, is_numeral, is_number_below, unsigned_parses, signed_parses}
@@ -60,8 +63,12 @@ shown_below : (limit : ℕ) → limit ≤ 10 ^ 64 → (v : Meaning) → IsBelow 
 shown_below limit most (number (pos n)) h = unsigned_shown limit n most h
 shown_below limit most _ h = absurd h
 
-pub unsigned_lawful : (limit : ℕ) → limit ≤ 10 ^ 64 → LawfulText (IsBelow limit) decimal_shows (unsigned_parses limit)
-unsigned_lawful limit most = record { shown = shown_below limit most; parsed = unsigned_parsed limit }
+classed_below : (limit : ℕ) → limit ≤ 10 ^ 64 → (v : Meaning) → IsBelow limit v → IsOfClass digit_class (decimal_shows v)
+classed_below limit most (number (pos n)) h = digits_classed n (omega arith)
+classed_below limit most _ h = absurd h
+
+pub unsigned_lawful : (limit : ℕ) → limit ≤ 10 ^ 64 → LawfulText (IsBelow limit) decimal_shows (unsigned_parses limit) digit_class
+unsigned_lawful limit most = record { shown = shown_below limit most; classed = classed_below limit most; parsed = unsigned_parsed limit }
 
 -- ---- signed numbers
 
@@ -110,7 +117,7 @@ signed_parsed w s v p =
     let z = signed_digits_value 10 s in
     signed_chosen w z (is_numeral (without_leading_sign s)) (is_within (2 ^ hbits w) z) refl v p
 
-half_most : (w : Width) → 2 ^ hbits w ≤ 2 ^ 127
+pub half_most : (w : Width) → 2 ^ hbits w ≤ 2 ^ 127
 half_most w8 = lit≤ tt
 half_most w16 = lit≤ tt
 half_most w32 = lit≤ tt
@@ -121,5 +128,9 @@ signed_text : (w : Width) (v : Meaning) → IsSigned w v → signed_parses (2 ^ 
 signed_text w (number z) h = signed_shown (2 ^ hbits w) z (half_most w) ((is_within-decides (2 ^ hbits w) z).1 h.sfits)
 signed_text w _ h = absurd h
 
-pub signed_lawful : (w : Width) → LawfulText (IsSigned w) decimal_shows (signed_parses (2 ^ hbits w))
-signed_lawful w = record { shown = signed_text w; parsed = signed_parsed w }
+signed_of_class : (w : Width) (v : Meaning) → IsSigned w v → IsOfClass signed_class (decimal_shows v)
+signed_of_class w (number z) h = signed_classed z (omega (arith, half_most w, h.sfits))
+signed_of_class w _ h = absurd h
+
+pub signed_lawful : (w : Width) → LawfulText (IsSigned w) decimal_shows (signed_parses (2 ^ hbits w)) signed_class
+signed_lawful w = record { shown = signed_text w; classed = signed_of_class w; parsed = signed_parsed w }

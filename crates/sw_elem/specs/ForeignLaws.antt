@@ -1,6 +1,6 @@
 -- The law of trees by themselves.
-use Rattle.std.specs.Prelude.{◌≡◌, ℕ, ◌+◌, ◌<◌, Bool, true, false, ◌&&◌, Option, Some, None, Ok, Err}
-use Rattle.std.proofs.Common.{refl, subst, arith}
+use Rattle.std.specs.Prelude.{◌≡◌, ℕ, ◌+◌, ◌<◌, true, ◌&&◌, Option, Some, None, is_none, Ok, Err}
+use Rattle.std.proofs.Common.{refl, ap, sym, ◌∙◌, subst, arith}
 use Rattle.std.specs.Option.{option_or}
 use Rattle.sw_tree.specs.Meaning.{Meaning}
 use Rattle.sw_tree.specs.Meaning as meaning
@@ -11,51 +11,51 @@ use Rattle.sw_elem.specs.Foreign.{is_text, is_any, are_any, are_any_keyed, Forei
 
 -- ---- a tree without such a node is one that is held
 
-further_none : (k : ℕ) (o : Option Foreign) → further k o ≡ None → o ≡ None
-further_none k None p = refl
-further_none k (Some f) p = absurd (cc)
+none_further : (k : ℕ) (o : Option Foreign) → is_none (further k o) ≡ is_none o
+none_further k None = refl
+none_further k (Some f) = refl
 
-or_none : (a b : Option Foreign) → option_or a b ≡ None → (a ≡ None) × (b ≡ None)
-or_none None b p = (refl, p)
-or_none (Some f) b p = absurd (cc)
+none_or : (a b : Option Foreign) → is_none (option_or a b) ≡ (is_none a && is_none b)
+none_or None b = refl
+none_or (Some f) b = refl
 
-key_is_text : (k : Tree) → foreign_key k ≡ None → is_text k ≡ true
-key_is_text (text s) p = refl
-key_is_text null p = absurd (cc)
-key_is_text (truth b) p = absurd (cc)
-key_is_text (int n) p = absurd (cc)
-key_is_text (bytes s) p = absurd (cc)
-key_is_text (list ts) p = absurd (cc)
-key_is_text (map es) p = absurd (cc)
-
-and_true : (a b : Bool) → a ≡ true → b ≡ true → (a && b) ≡ true
-and_true true b p q = q
-and_true false b p q = absurd (cc)
+text_key : (k : Tree) → is_text k ≡ is_none (foreign_key k)
+text_key (text s) = refl
+text_key null = refl
+text_key (truth b) = refl
+text_key (int n) = refl
+text_key (bytes s) = refl
+text_key (list ts) = refl
+text_key (map es) = refl
 
 mutual
-  pub none_foreign : (t : Tree) → foreign t ≡ None → is_any t ≡ true
-  none_foreign null p = refl
-  none_foreign (truth b) p = refl
-  none_foreign (int n) p = refl
-  none_foreign (text s) p = refl
-  none_foreign (bytes s) p = absurd (cc)
-  none_foreign (list ts) p = none_foreign_items ts (further_none 1 (foreign_items ts) p)
-  none_foreign (map es) p = none_foreign_entries es (further_none 1 (foreign_entries es) p)
+  pub any_foreign : (t : Tree) → is_any t ≡ is_none (foreign t)
+  any_foreign null = refl
+  any_foreign (truth b) = refl
+  any_foreign (int n) = refl
+  any_foreign (text s) = refl
+  any_foreign (bytes s) = refl
+  any_foreign (list ts) = any_foreign_items ts ∙ sym (none_further 1 (foreign_items ts))
+  any_foreign (map es) = any_foreign_entries es ∙ sym (none_further 1 (foreign_entries es))
 
-  none_foreign_items : (ts : Trees) → foreign_items ts ≡ None → are_any ts ≡ true
-  none_foreign_items no_trees p = refl
-  none_foreign_items (tree t ts) p =
-      let q = or_none (foreign t) (further (size t) (foreign_items ts)) p in
-      and_true (is_any t) (are_any ts) (none_foreign t q.0) (none_foreign_items ts (further_none (size t) (foreign_items ts) q.1))
+  any_foreign_items : (ts : Trees) → are_any ts ≡ is_none (foreign_items ts)
+  any_foreign_items no_trees = refl
+  any_foreign_items (tree t ts) =
+      let behind = further (size t) (foreign_items ts) in
+      (λ j. any_foreign t j && (any_foreign_items ts ∙ sym (none_further (size t) (foreign_items ts))) j) ∙ sym (none_or (foreign t) behind)
 
-  none_foreign_entries : (es : Entries) → foreign_entries es ≡ None → are_any_keyed es ≡ true
-  none_foreign_entries no_entries p = refl
-  none_foreign_entries (entry k v es) p =
+  any_foreign_entries : (es : Entries) → are_any_keyed es ≡ is_none (foreign_entries es)
+  any_foreign_entries no_entries = refl
+  any_foreign_entries (entry k v es) =
       let behind = further (size v) (foreign_entries es) in
-      let q = or_none (foreign_key k) (further (size k) (option_or (foreign v) behind)) p in
-      let r = or_none (foreign v) behind (further_none (size k) (option_or (foreign v) behind) q.1) in
-      and_true (is_text k) (is_any v && are_any_keyed es) (key_is_text k q.0)
-      (and_true (is_any v) (are_any_keyed es) (none_foreign v r.0) (none_foreign_entries es (further_none (size v) (foreign_entries es) r.1)))
+      let values : (is_any v && are_any_keyed es) ≡ is_none (further (size k) (option_or (foreign v) behind)) =
+      (λ j. any_foreign v j && (any_foreign_entries es ∙ sym (none_further (size v) (foreign_entries es))) j)
+      ∙ sym (none_or (foreign v) behind)
+      ∙ sym (none_further (size k) (option_or (foreign v) behind)) in
+      (λ j. text_key k j && values j) ∙ sym (none_or (foreign_key k) (further (size k) (option_or (foreign v) behind)))
+
+pub none_foreign : (t : Tree) → foreign t ≡ None → is_any t ≡ true
+none_foreign t p = any_foreign t ∙ ap is_none p
 
 -- ---- such a node is one of the tree's
 

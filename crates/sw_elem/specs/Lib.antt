@@ -12,3 +12,12 @@ pub mod Text
 pub mod TextLaws
 pub mod Decimal
 pub mod DecimalLaws
+pub mod Laws
+pub mod Lawful
+pub mod Facts
+pub mod Leaf
+pub mod KeyedLeaf
+pub mod TextLeaf
+pub mod AnyLeaf
+pub mod Classes
+pub mod ClassLaws

@@ -19,6 +19,9 @@ use Rattle.sw_tree.specs.declared.fail.DeError.{DeError}
 use Rattle.sw_tree.specs.declared.fail.DeError.TheVariants as fail
 use Rattle.sw_elem.specs.Equations.{LawfulReading, own_spot, own_spot-inside}
 use Rattle.sw_elem.specs.KeyPlace.{keyed_reads}
+use Rattle.sw_check.specs.TextClass.{IsOfClass}
+use Rattle.sw_elem.specs.Classes.{truth_class, byte_class}
+use Rattle.sw_elem.specs.ClassLaws.{truth_classed, text_classed, character_classed}
 use Rattle.sw_elem.specs.Text.{LawfulText}
 use Rattle.sw_elem.specs.Truths.{truth_named, truth_reads, truth_shows, truth_parses}
 use Rattle.sw_elem.specs.Texts.{texted_reads, text_reads, text_shows, text_parses, is_character, character_reads, character_parses, nothing_at, nothing_reads}
@@ -43,8 +46,12 @@ truth_shown (truth true) h = refl
 truth_shown (truth false) h = refl
 truth_shown _ h = absurd h
 
-pub truth_lawful : LawfulText IsTruth truth_shows truth_parses
-truth_lawful = record { shown = truth_shown; parsed = λ s v p. truth_parsed (truth_named s) v p }
+truth_is_classed : (v : Meaning) → IsTruth v → IsOfClass truth_class (truth_shows v)
+truth_is_classed (truth b) h = truth_classed b
+truth_is_classed _ h = absurd h
+
+pub truth_lawful : LawfulText IsTruth truth_shows truth_parses truth_class
+truth_lawful = record { shown = truth_shown; classed = truth_is_classed; parsed = λ s v p. truth_parsed (truth_named s) v p }
 
 -- ---- texts, and what they stand for
 
@@ -52,9 +59,9 @@ parsed_ok : (o : Option Meaning) (e : DeError) (v : Meaning) → ok_or o e ≡ O
 parsed_ok (Some w) e v p = cc
 parsed_ok None e v p = absurd (cc)
 
-module _ (P : Meaning → Type 0) (parses : List ℕ → Option Meaning) (e : DeError) (law : LawfulText P text_shows parses) where
+module _ (P : Meaning → Type 0) (parses : List ℕ → Option Meaning) (e : DeError) (parsed : (s : List ℕ) (v : Meaning) → parses s ≡ Some v → P v) where
   texted_meanings : (m : Mode) (t : Tree) (v : Meaning) → texted_reads parses e m t ≡ Ok v → P v
-  texted_meanings m (node.text s) v p = law.parsed s v (parsed_ok (parses s) e v p)
+  texted_meanings m (node.text s) v p = parsed s v (parsed_ok (parses s) e v p)
   texted_meanings m _ v p = absurd (cc)
 
   texted_lawful : LawfulReading P (texted_reads parses e) own_spot
@@ -68,11 +75,11 @@ text_shown : (v : Meaning) → IsText v → text_parses (text_shows v) ≡ Some 
 text_shown (text s) h = rw h refl
 text_shown _ h = absurd h
 
-pub text_lawful : LawfulText IsText text_shows text_parses
-text_lawful = record { shown = text_shown; parsed = λ s v p. chosen IsText (text s) v (is_utf8 s) (λ h. h) p }
+pub text_lawful : LawfulText IsText text_shows text_parses (byte_class false)
+text_lawful = record { shown = text_shown; classed = λ v h. text_classed (text_shows v); parsed = λ s v p. chosen IsText (text s) v (is_utf8 s) (λ h. h) p }
 
 pub text_reading_lawful : LawfulReading IsText text_reads own_spot
-text_reading_lawful = texted_lawful IsText text_parses (fail.InvalidType kind.Text) text_lawful
+text_reading_lawful = texted_lawful IsText text_parses (fail.InvalidType kind.Text) text_lawful.parsed
 
 both : (a b : Bool) → (a && b) ≡ true → (a ≡ true) × (b ≡ true)
 both true b h = (refl, h)
@@ -98,11 +105,15 @@ character_shown : (v : Meaning) → IsCharText v → character_parses (text_show
 character_shown (text s) h = rw (h.2, is_character-encode h.0 h.1) refl
 character_shown _ h = absurd h
 
-pub character_lawful : LawfulText IsCharText text_shows character_parses
-character_lawful = record { shown = character_shown; parsed = λ s v p. chosen IsCharText (text s) v (is_character s) (character_is s) p }
+character_is_classed : (v : Meaning) → IsCharText v → IsOfClass (byte_class true) (text_shows v)
+character_is_classed (text s) h = subst (IsOfClass (byte_class true)) (sym h.2) (character_classed h.0)
+character_is_classed _ h = absurd h
+
+pub character_lawful : LawfulText IsCharText text_shows character_parses (byte_class true)
+character_lawful = record { shown = character_shown; classed = character_is_classed; parsed = λ s v p. chosen IsCharText (text s) v (is_character s) (character_is s) p }
 
 pub character_reading_lawful : LawfulReading IsCharText character_reads own_spot
-character_reading_lawful = texted_lawful IsCharText character_parses fail.InvalidValue character_lawful
+character_reading_lawful = texted_lawful IsCharText character_parses fail.InvalidValue character_lawful.parsed
 
 -- ---- nothing
 

@@ -1,9 +1,12 @@
 ghost use Rattle.std.specs.Prelude.{◌≡◌, true};
 ghost use Rattle.sw_elem.specs.Foreign as foreign;
 
+use crate::element::Element;
+use crate::facts;
 use crate::foreign::{foreign_in, is_any};
 use crate::serialize::{Deserialize, Serialize};
 use std::alloc::Global;
+use sw_check::facts::Facts;
 use sw_tree::fail::{DeFail, SerFail};
 use sw_tree::meant::{Meant, Named};
 use sw_tree::mode::Mode;
@@ -106,4 +109,17 @@ impl Deserialize for Any {
     }
 
     ghost lawful = { any_lawful };
+}
+
+impl Element for Any {
+    ghost use Rattle.sw_elem.specs.Facts.{any_facts};
+    ghost use Rattle.sw_elem.specs.AnyLeaf.{any_keeps};
+
+    ghost known = { any_facts };
+
+    fn facts() -> Facts {
+        facts::any_facts()
+    }
+
+    ghost keeps = { any_keeps };
 }

@@ -7,6 +7,7 @@ ghost use Rattle.sw_elem.specs.Foreign as foreign;
 ghost use Rattle.sw_elem.specs.ForeignSeen.{foreign_seen, foreign_key_seen, foreign_each, foreign_each_entry};
 
 use crate::refuse::refusal_at;
+use sw_tree::content::Content;
 use sw_tree::fail::{DeError, Refusal};
 use sw_tree::mode::Kind;
 use sw_tree::node::Node;
@@ -71,19 +72,16 @@ fn foreign_key(view: View<'_>) -> Option<Refusal>
 
 /// Whether there is no such node.
 #[cycle(is_any)]
-#[tactic(auto, using(crate::proofs::Foreigns::any_nodes))]
+#[tactic(auto, using(crate::proofs::Foreigns::any_seen))]
 pub(crate) fn is_any(node: &Node) -> bool
     ensures { result ≡ foreign.is_any node.now }
 {
-    if let Some(items) = node.items() {
-        return are_any(items);
-    }
-    if let Some(pairs) = node.entries() {
-        return are_any_keyed(pairs);
-    }
-    match node.as_bytes() {
-        Some(_) => false,
-        None => true,
+    match node.content() {
+        Content::Bytes(_) => false,
+        Content::List(items) => are_any(items),
+        Content::Map(pairs) => are_any_keyed(pairs),
+        Content::Document(view) => foreign_in(view).is_none(),
+        _ => true,
     }
 }
 

@@ -1,15 +1,18 @@
 //! The texts of truth values, characters and texts.
 
+use crate::classes;
 use crate::text::{ParseFail, TextForm};
 use crate::texts::{char_in, char_text, copied};
 use crate::truths::truth_named;
 use std::alloc::{AllocError, Global};
+use sw_check::class::TextClass;
 
 /// `true` or `false`.
 impl TextForm for bool {
     ghost use Rattle.std.specs.Prelude.{true};
     ghost use Rattle.sw_elem.specs.Truths.{truth_shows, truth_parses};
     ghost use Rattle.sw_elem.specs.TextLaws.{truth_lawful};
+    ghost use Rattle.sw_elem.specs.Classes.{truth_class};
 
     const FREE: bool = true;
 
@@ -18,6 +21,8 @@ impl TextForm for bool {
     ghost shows = { truth_shows };
 
     ghost parses = { truth_parses };
+
+    ghost class = { truth_class };
 
     fn show(&self, alloc: Global) -> Result<String, AllocError> {
         if *self {
@@ -34,6 +39,10 @@ impl TextForm for bool {
         }
     }
 
+    fn class() -> TextClass {
+        classes::truth_letters()
+    }
+
     ghost lawful = { truth_lawful };
 }
 
@@ -42,6 +51,7 @@ impl TextForm for char {
     ghost use Rattle.std.specs.Prelude.{true};
     ghost use Rattle.sw_elem.specs.Texts.{text_shows, character_parses};
     ghost use Rattle.sw_elem.specs.TextLaws.{character_lawful};
+    ghost use Rattle.sw_elem.specs.Classes.{byte_class};
 
     const FREE: bool = true;
 
@@ -50,6 +60,8 @@ impl TextForm for char {
     ghost shows = { text_shows };
 
     ghost parses = { character_parses };
+
+    ghost class = { byte_class true };
 
     fn show(&self, alloc: Global) -> Result<String, AllocError> {
         char_text(alloc, *self)
@@ -62,6 +74,10 @@ impl TextForm for char {
         }
     }
 
+    fn class() -> TextClass {
+        classes::every_byte(true)
+    }
+
     ghost lawful = { character_lawful };
 }
 
@@ -70,6 +86,7 @@ impl TextForm for String {
     ghost use Rattle.std.specs.Prelude.{false};
     ghost use Rattle.sw_elem.specs.Texts.{text_shows, text_parses};
     ghost use Rattle.sw_elem.specs.TextLaws.{text_lawful};
+    ghost use Rattle.sw_elem.specs.Classes.{byte_class};
 
     const FREE: bool = false;
 
@@ -78,6 +95,8 @@ impl TextForm for String {
     ghost shows = { text_shows };
 
     ghost parses = { text_parses };
+
+    ghost class = { byte_class false };
 
     fn show(&self, alloc: Global) -> Result<String, AllocError> {
         String::from_str(alloc, self.as_str())
@@ -88,6 +107,10 @@ impl TextForm for String {
             Ok(copy) => Ok(copy),
             Err(_) => Err(ParseFail::Memory),
         }
+    }
+
+    fn class() -> TextClass {
+        classes::every_byte(false)
     }
 
     ghost lawful = { text_lawful };

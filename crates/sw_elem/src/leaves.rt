@@ -1,10 +1,13 @@
 //! Truth values, characters, texts and `()`, each by itself.
 
+use crate::element::Element;
+use crate::facts;
 use crate::refuse::refused_at;
 use crate::serialize::{Deserialize, Serialize};
 use crate::texts::{char_in, char_text, copied};
 use crate::truths::bool_at;
 use std::alloc::Global;
+use sw_check::facts::Facts;
 use sw_tree::fail::{DeError, DeFail, SerFail};
 use sw_tree::mode::{Kind, Mode};
 use sw_tree::node::Node;
@@ -51,6 +54,19 @@ impl Deserialize for bool {
     }
 
     ghost lawful = { truth_reading_lawful };
+}
+
+impl Element for bool {
+    ghost use Rattle.sw_elem.specs.Facts.{truth_facts};
+    ghost use Rattle.sw_elem.specs.KeyedLeaf.{truth_keeps};
+
+    ghost known = { truth_facts };
+
+    fn facts() -> Facts {
+        facts::truth_facts()
+    }
+
+    ghost keeps = { truth_keeps };
 }
 
 impl Serialize for char {
@@ -100,6 +116,19 @@ impl Deserialize for char {
     ghost lawful = { character_reading_lawful };
 }
 
+impl Element for char {
+    ghost use Rattle.sw_elem.specs.Facts.{text_facts};
+    ghost use Rattle.sw_elem.specs.TextLeaf.{character_keeps};
+
+    ghost known = { text_facts };
+
+    fn facts() -> Facts {
+        facts::text_facts()
+    }
+
+    ghost keeps = { character_keeps };
+}
+
 impl Serialize for String {
     ghost use Rattle.sw_elem.specs.Texts.{text_writes};
 
@@ -146,6 +175,19 @@ impl Deserialize for String {
     ghost lawful = { text_reading_lawful };
 }
 
+impl Element for String {
+    ghost use Rattle.sw_elem.specs.Facts.{text_facts};
+    ghost use Rattle.sw_elem.specs.TextLeaf.{text_keeps};
+
+    ghost known = { text_facts };
+
+    fn facts() -> Facts {
+        facts::text_facts()
+    }
+
+    ghost keeps = { text_keeps };
+}
+
 impl Serialize for () {
     ghost use Rattle.sw_elem.specs.Texts.{nothing_writes};
 
@@ -184,4 +226,17 @@ impl Deserialize for () {
     }
 
     ghost lawful = { nothing_lawful };
+}
+
+impl Element for () {
+    ghost use Rattle.sw_elem.specs.Facts.{nothing_facts};
+    ghost use Rattle.sw_elem.specs.TextLeaf.{nothing_keeps};
+
+    ghost known = { nothing_facts };
+
+    fn facts() -> Facts {
+        facts::nothing_facts()
+    }
+
+    ghost keeps = { nothing_keeps };
 }

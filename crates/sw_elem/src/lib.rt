@@ -2,7 +2,10 @@
 #![tactic(auto)]
 
 pub mod any;
+mod classes;
 mod digits;
+pub mod element;
+pub mod facts;
 mod foreign;
 mod key_place;
 mod leaf_texts;
@@ -19,6 +22,7 @@ mod unsigned;
 mod unsigned_texts;
 
 pub use any::Any;
+pub use element::Element;
 pub use refuse::refused_at;
 pub use serialize::{Deserialize, Serialize};
 pub use text::{ParseFail, TextForm};

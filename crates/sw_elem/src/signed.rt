@@ -1,8 +1,11 @@
 //! The signed whole number types, each a number by itself, as the unsigned ones.
 
+use crate::element::Element;
+use crate::facts;
 use crate::numbers::{signed_at, signed_node};
 use crate::serialize::{Deserialize, Serialize};
 use std::alloc::Global;
+use sw_check::facts::Facts;
 use sw_tree::fail::{DeFail, SerFail};
 use sw_tree::mode::Mode;
 use sw_tree::node::Node;
@@ -49,6 +52,20 @@ impl Deserialize for i8 {
     ghost lawful = { signed_number_lawful w8 };
 }
 
+impl Element for i8 {
+    ghost use Rattle.std.specs.Int.{w8};
+    ghost use Rattle.sw_elem.specs.Facts.{number_facts};
+    ghost use Rattle.sw_elem.specs.KeyedLeaf.{signed_keeps};
+
+    ghost known = { number_facts };
+
+    fn facts() -> Facts {
+        facts::number_facts()
+    }
+
+    ghost keeps = { signed_keeps w8 };
+}
+
 impl Serialize for i16 {
     ghost use Rattle.sw_elem.specs.Numbers.{number_writes};
 
@@ -87,6 +104,20 @@ impl Deserialize for i16 {
     }
 
     ghost lawful = { signed_number_lawful w16 };
+}
+
+impl Element for i16 {
+    ghost use Rattle.std.specs.Int.{w16};
+    ghost use Rattle.sw_elem.specs.Facts.{number_facts};
+    ghost use Rattle.sw_elem.specs.KeyedLeaf.{signed_keeps};
+
+    ghost known = { number_facts };
+
+    fn facts() -> Facts {
+        facts::number_facts()
+    }
+
+    ghost keeps = { signed_keeps w16 };
 }
 
 impl Serialize for i32 {
@@ -129,6 +160,20 @@ impl Deserialize for i32 {
     ghost lawful = { signed_number_lawful w32 };
 }
 
+impl Element for i32 {
+    ghost use Rattle.std.specs.Int.{w32};
+    ghost use Rattle.sw_elem.specs.Facts.{number_facts};
+    ghost use Rattle.sw_elem.specs.KeyedLeaf.{signed_keeps};
+
+    ghost known = { number_facts };
+
+    fn facts() -> Facts {
+        facts::number_facts()
+    }
+
+    ghost keeps = { signed_keeps w32 };
+}
+
 impl Serialize for i64 {
     ghost use Rattle.sw_elem.specs.Numbers.{number_writes};
 
@@ -167,6 +212,20 @@ impl Deserialize for i64 {
     }
 
     ghost lawful = { signed_number_lawful w64 };
+}
+
+impl Element for i64 {
+    ghost use Rattle.std.specs.Int.{w64};
+    ghost use Rattle.sw_elem.specs.Facts.{number_facts};
+    ghost use Rattle.sw_elem.specs.KeyedLeaf.{signed_keeps};
+
+    ghost known = { number_facts };
+
+    fn facts() -> Facts {
+        facts::number_facts()
+    }
+
+    ghost keeps = { signed_keeps w64 };
 }
 
 impl Serialize for i128 {
@@ -209,6 +268,20 @@ impl Deserialize for i128 {
     ghost lawful = { signed_number_lawful w128 };
 }
 
+impl Element for i128 {
+    ghost use Rattle.std.specs.Int.{w128};
+    ghost use Rattle.sw_elem.specs.Facts.{number_facts};
+    ghost use Rattle.sw_elem.specs.KeyedLeaf.{signed_keeps};
+
+    ghost known = { number_facts };
+
+    fn facts() -> Facts {
+        facts::number_facts()
+    }
+
+    ghost keeps = { signed_keeps w128 };
+}
+
 impl Serialize for isize {
     ghost use Rattle.sw_elem.specs.Numbers.{number_writes};
 
@@ -247,4 +320,18 @@ impl Deserialize for isize {
     }
 
     ghost lawful = { signed_number_lawful w64 };
+}
+
+impl Element for isize {
+    ghost use Rattle.std.specs.Int.{w64};
+    ghost use Rattle.sw_elem.specs.Facts.{number_facts};
+    ghost use Rattle.sw_elem.specs.KeyedLeaf.{signed_keeps};
+
+    ghost known = { number_facts };
+
+    fn facts() -> Facts {
+        facts::number_facts()
+    }
+
+    ghost keeps = { signed_keeps w64 };
 }

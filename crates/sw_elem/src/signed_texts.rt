@@ -3,9 +3,11 @@
 //! Shown in decimal, without plus and leading zeros. A text is an optional `+` or `-` and then one
 //! or more ASCII digits, whose number is in range; so `-0` is 0.
 
+use crate::classes;
 use crate::digits::signed_in;
 use crate::text::{ParseFail, TextForm};
 use std::alloc::{AllocError, Global};
+use sw_check::class::TextClass;
 use sw_tree::number::whole_text;
 use sw_tree::whole::Whole;
 
@@ -14,6 +16,7 @@ impl TextForm for i8 {
     ghost use Rattle.std.specs.Int.{w8};
     ghost use Rattle.sw_elem.specs.Decimal.{decimal_shows, signed_parses};
     ghost use Rattle.sw_elem.specs.DecimalLaws.{signed_lawful};
+    ghost use Rattle.sw_elem.specs.Classes.{signed_class};
 
     const FREE: bool = true;
 
@@ -22,6 +25,8 @@ impl TextForm for i8 {
     ghost shows = { decimal_shows };
 
     ghost parses = { signed_parses (2 ^ 7) };
+
+    ghost class = { signed_class };
 
     fn show(&self, alloc: Global) -> Result<String, AllocError> {
         whole_text(alloc, Whole::from_i128(i128::from(*self)))
@@ -34,6 +39,10 @@ impl TextForm for i8 {
         }
     }
 
+    fn class() -> TextClass {
+        classes::signed_digits()
+    }
+
     ghost lawful = { signed_lawful w8 };
 }
 
@@ -42,6 +51,7 @@ impl TextForm for i16 {
     ghost use Rattle.std.specs.Int.{w16};
     ghost use Rattle.sw_elem.specs.Decimal.{decimal_shows, signed_parses};
     ghost use Rattle.sw_elem.specs.DecimalLaws.{signed_lawful};
+    ghost use Rattle.sw_elem.specs.Classes.{signed_class};
 
     const FREE: bool = true;
 
@@ -50,6 +60,8 @@ impl TextForm for i16 {
     ghost shows = { decimal_shows };
 
     ghost parses = { signed_parses (2 ^ 15) };
+
+    ghost class = { signed_class };
 
     fn show(&self, alloc: Global) -> Result<String, AllocError> {
         whole_text(alloc, Whole::from_i128(i128::from(*self)))
@@ -62,6 +74,10 @@ impl TextForm for i16 {
         }
     }
 
+    fn class() -> TextClass {
+        classes::signed_digits()
+    }
+
     ghost lawful = { signed_lawful w16 };
 }
 
@@ -70,6 +86,7 @@ impl TextForm for i32 {
     ghost use Rattle.std.specs.Int.{w32};
     ghost use Rattle.sw_elem.specs.Decimal.{decimal_shows, signed_parses};
     ghost use Rattle.sw_elem.specs.DecimalLaws.{signed_lawful};
+    ghost use Rattle.sw_elem.specs.Classes.{signed_class};
 
     const FREE: bool = true;
 
@@ -78,6 +95,8 @@ impl TextForm for i32 {
     ghost shows = { decimal_shows };
 
     ghost parses = { signed_parses (2 ^ 31) };
+
+    ghost class = { signed_class };
 
     fn show(&self, alloc: Global) -> Result<String, AllocError> {
         whole_text(alloc, Whole::from_i128(i128::from(*self)))
@@ -90,6 +109,10 @@ impl TextForm for i32 {
         }
     }
 
+    fn class() -> TextClass {
+        classes::signed_digits()
+    }
+
     ghost lawful = { signed_lawful w32 };
 }
 
@@ -98,6 +121,7 @@ impl TextForm for i64 {
     ghost use Rattle.std.specs.Int.{w64};
     ghost use Rattle.sw_elem.specs.Decimal.{decimal_shows, signed_parses};
     ghost use Rattle.sw_elem.specs.DecimalLaws.{signed_lawful};
+    ghost use Rattle.sw_elem.specs.Classes.{signed_class};
 
     const FREE: bool = true;
 
@@ -106,6 +130,8 @@ impl TextForm for i64 {
     ghost shows = { decimal_shows };
 
     ghost parses = { signed_parses (2 ^ 63) };
+
+    ghost class = { signed_class };
 
     fn show(&self, alloc: Global) -> Result<String, AllocError> {
         whole_text(alloc, Whole::from_i128(i128::from(*self)))
@@ -118,6 +144,10 @@ impl TextForm for i64 {
         }
     }
 
+    fn class() -> TextClass {
+        classes::signed_digits()
+    }
+
     ghost lawful = { signed_lawful w64 };
 }
 
@@ -126,6 +156,7 @@ impl TextForm for i128 {
     ghost use Rattle.std.specs.Int.{w128};
     ghost use Rattle.sw_elem.specs.Decimal.{decimal_shows, signed_parses};
     ghost use Rattle.sw_elem.specs.DecimalLaws.{signed_lawful};
+    ghost use Rattle.sw_elem.specs.Classes.{signed_class};
 
     const FREE: bool = true;
 
@@ -134,6 +165,8 @@ impl TextForm for i128 {
     ghost shows = { decimal_shows };
 
     ghost parses = { signed_parses (2 ^ 127) };
+
+    ghost class = { signed_class };
 
     fn show(&self, alloc: Global) -> Result<String, AllocError> {
         whole_text(alloc, Whole::from_i128(*self))
@@ -146,6 +179,10 @@ impl TextForm for i128 {
         }
     }
 
+    fn class() -> TextClass {
+        classes::signed_digits()
+    }
+
     ghost lawful = { signed_lawful w128 };
 }
 
@@ -154,6 +191,7 @@ impl TextForm for isize {
     ghost use Rattle.std.specs.Int.{w64};
     ghost use Rattle.sw_elem.specs.Decimal.{decimal_shows, signed_parses};
     ghost use Rattle.sw_elem.specs.DecimalLaws.{signed_lawful};
+    ghost use Rattle.sw_elem.specs.Classes.{signed_class};
 
     const FREE: bool = true;
 
@@ -162,6 +200,8 @@ impl TextForm for isize {
     ghost shows = { decimal_shows };
 
     ghost parses = { signed_parses (2 ^ 63) };
+
+    ghost class = { signed_class };
 
     fn show(&self, alloc: Global) -> Result<String, AllocError> {
         whole_text(alloc, Whole::from_i128(*self as i128))
@@ -172,6 +212,10 @@ impl TextForm for isize {
             Some(value) => Ok(value as isize),
             None => Err(ParseFail::Refused),
         }
+    }
+
+    fn class() -> TextClass {
+        classes::signed_digits()
     }
 
     ghost lawful = { signed_lawful w64 };

@@ -1,10 +1,15 @@
 use crate::any::Any;
+use crate::element::Element;
 use crate::serialize::{Deserialize, Serialize};
 use crate::text::{ParseFail, TextForm};
 use std::alloc::{AllocError, Global};
+use sw_check::class::TextClass;
+use sw_check::facts::{Claims, Facts};
+use sw_check::grade::Grade;
 use sw_tree::builder::DocBuilder;
 use sw_tree::doc::Doc;
 use sw_tree::fail::{DeError, DeFail, Refusal};
+use sw_tree::kinds::Kinds;
 use sw_tree::mode::{Kind, Mode, WireKind};
 use sw_tree::node::Node;
 use sw_tree::skipped::Skipped;
@@ -312,4 +317,117 @@ fn any_holds_no_byte_string(rt: HostRuntime) -> Result<(), AllocError> {
     assert!(rt; foreign_to_any(rt.alloc(), &tree)? == Some(refusal));
     assert!(rt; Any::new(tree).is_err());
     Ok(())
+}
+
+/// A type's facts by its own bound.
+fn facts_of<T: Element>() -> Facts {
+    T::facts()
+}
+
+/// What is known of numbers and truth values.
+fn known_by_keys(kind: Kind) -> Facts {
+    Facts {
+        claims: Claims {
+            value: true,
+            buffered_value: true,
+            key: true,
+            buffered_key: false,
+            compact: true,
+        },
+        written: Kinds::one(kind),
+        read_value: Kinds::one(kind),
+        read_key: Kinds::one(Kind::Text).with(kind),
+        read_buffered_key: Kinds::one(kind),
+        grade: Grade::Exact,
+    }
+}
+
+/// What is known of types that read what they write, as a key of JSON too or not.
+fn known_by_kinds(kinds: Kinds, keys: bool) -> Facts {
+    Facts {
+        claims: Claims {
+            value: true,
+            buffered_value: true,
+            key: keys,
+            buffered_key: keys,
+            compact: true,
+        },
+        written: kinds,
+        read_value: kinds,
+        read_key: kinds,
+        read_buffered_key: kinds,
+        grade: Grade::Exact,
+    }
+}
+
+#[test]
+fn each_type_names_its_facts(rt: HostRuntime) {
+    let number = known_by_keys(Kind::Int);
+    let text = known_by_kinds(Kinds::one(Kind::Text), true);
+    let but_bytes = Kinds::one(Kind::Null)
+        .with(Kind::Bool)
+        .with(Kind::Int)
+        .with(Kind::Text)
+        .with(Kind::List)
+        .with(Kind::Map);
+    for (found, want) in [
+        (facts_of::<u8>(), number),
+        (facts_of::<u16>(), number),
+        (facts_of::<u32>(), number),
+        (facts_of::<u64>(), number),
+        (facts_of::<u128>(), number),
+        (facts_of::<usize>(), number),
+        (facts_of::<i8>(), number),
+        (facts_of::<i16>(), number),
+        (facts_of::<i32>(), number),
+        (facts_of::<i64>(), number),
+        (facts_of::<i128>(), number),
+        (facts_of::<isize>(), number),
+        (facts_of::<bool>(), known_by_keys(Kind::Bool)),
+        (facts_of::<char>(), text),
+        (facts_of::<String>(), text),
+        (
+            facts_of::<()>(),
+            known_by_kinds(Kinds::one(Kind::Null), false),
+        ),
+        (facts_of::<Any>(), known_by_kinds(but_bytes, false)),
+    ] {
+        assert!(rt; found == want);
+    }
+}
+
+/// A type's class by its own bound.
+fn class_of<T: TextForm>() -> TextClass {
+    T::class()
+}
+
+#[test]
+fn each_text_form_names_its_class(rt: HostRuntime) {
+    let digits = 0x03ff_0000_0000_0000;
+    let signed = 0x03ff_2000_0000_0000;
+    let letters = 0x003c_1062_0000_0000_0000_0000_0000_0000;
+    for (found, never_empty, ascii, other) in [
+        (class_of::<u8>(), true, digits, false),
+        (class_of::<u16>(), true, digits, false),
+        (class_of::<u32>(), true, digits, false),
+        (class_of::<u64>(), true, digits, false),
+        (class_of::<u128>(), true, digits, false),
+        (class_of::<usize>(), true, digits, false),
+        (class_of::<i8>(), true, signed, false),
+        (class_of::<i16>(), true, signed, false),
+        (class_of::<i32>(), true, signed, false),
+        (class_of::<i64>(), true, signed, false),
+        (class_of::<i128>(), true, signed, false),
+        (class_of::<isize>(), true, signed, false),
+        (class_of::<bool>(), true, letters, false),
+        (class_of::<char>(), true, u128::MAX, true),
+        (class_of::<String>(), false, u128::MAX, true),
+    ] {
+        let want = TextClass {
+            never_empty,
+            ascii,
+            other,
+        };
+        assert!(rt; found == want);
+    }
 }

@@ -1,6 +1,7 @@
 ghost use Rattle.std.specs.Prelude.{◌≡◌, IfOk, true, string_bytes};
 
 use std::alloc::{AllocError, Global};
+use sw_check::class::TextClass;
 use sw_tree::meant::Meant;
 
 /// Why a text isn't parsed.
@@ -13,11 +14,12 @@ pub enum ParseFail {
 
 /// A type whose values have a text each, in place of Rust's `Display` and `FromStr`.
 ///
-/// It names the text of each meaning and the meaning of each text, if it has one. What is shown
-/// parses as the value that was shown.
+/// It names the text of each meaning, the meaning of each text, if it has one, and a class. What is
+/// shown parses as the value that was shown, and is of the class.
 pub trait TextForm: Meant {
     ghost use Rattle.std.specs.Prelude.{List, ℕ, Bool, Option};
     ghost use Rattle.sw_tree.specs.Meaning.{Meaning};
+    ghost use Rattle.sw_check.specs.declared.class.TextClass.{TextClass};
     ghost use Rattle.sw_elem.specs.Text.{IsParsed, ParsesFreely, LawfulText};
 
     /// Whether parsing takes no memory.
@@ -29,6 +31,8 @@ pub trait TextForm: Meant {
 
     ghost parses: { List ℕ → Option Meaning };
 
+    ghost class: { TextClass };
+
     /// The value's text. The one error is want of memory.
     fn show(&self, alloc: Global) -> Result<String, AllocError>
         ensures { IfOk result (λ s. string_bytes s ≡ shows (Self.meaning self.now)) };
@@ -38,5 +42,9 @@ pub trait TextForm: Meant {
         ensures value { IsParsed Self.meaning result (parses text.now) }
         ensures free { FREE ≡ true → ParsesFreely result };
 
-    ghost lawful: { LawfulText Self.is_meaning shows parses };
+    /// The class of the texts that are shown.
+    fn class() -> TextClass
+        ensures { result ≡ class };
+
+    ghost lawful: { LawfulText Self.is_meaning shows parses class };
 }

@@ -4,9 +4,12 @@
 //! buffered, a text that spells a number is read as that number, and another text is refused as
 //! `InvalidType` of a text; else a text is refused so, as every node is that is no number.
 
+use crate::element::Element;
+use crate::facts;
 use crate::numbers::{unsigned_at, unsigned_node};
 use crate::serialize::{Deserialize, Serialize};
 use std::alloc::Global;
+use sw_check::facts::Facts;
 use sw_tree::fail::{DeFail, SerFail};
 use sw_tree::mode::Mode;
 use sw_tree::node::Node;
@@ -52,6 +55,21 @@ impl Deserialize for u8 {
     ghost lawful = { unsigned_number_lawful (2 ^ 8) };
 }
 
+impl Element for u8 {
+    ghost use Rattle.std.specs.Prelude.{◌^◌};
+    ghost use Rattle.std.proofs.Common.{lit≤};
+    ghost use Rattle.sw_elem.specs.Facts.{number_facts};
+    ghost use Rattle.sw_elem.specs.KeyedLeaf.{unsigned_keeps};
+
+    ghost known = { number_facts };
+
+    fn facts() -> Facts {
+        facts::number_facts()
+    }
+
+    ghost keeps = { unsigned_keeps (2 ^ 8) (lit≤ tt) };
+}
+
 impl Serialize for u16 {
     ghost use Rattle.sw_elem.specs.Numbers.{number_writes};
 
@@ -89,6 +107,21 @@ impl Deserialize for u16 {
     }
 
     ghost lawful = { unsigned_number_lawful (2 ^ 16) };
+}
+
+impl Element for u16 {
+    ghost use Rattle.std.specs.Prelude.{◌^◌};
+    ghost use Rattle.std.proofs.Common.{lit≤};
+    ghost use Rattle.sw_elem.specs.Facts.{number_facts};
+    ghost use Rattle.sw_elem.specs.KeyedLeaf.{unsigned_keeps};
+
+    ghost known = { number_facts };
+
+    fn facts() -> Facts {
+        facts::number_facts()
+    }
+
+    ghost keeps = { unsigned_keeps (2 ^ 16) (lit≤ tt) };
 }
 
 impl Serialize for u32 {
@@ -130,6 +163,21 @@ impl Deserialize for u32 {
     ghost lawful = { unsigned_number_lawful (2 ^ 32) };
 }
 
+impl Element for u32 {
+    ghost use Rattle.std.specs.Prelude.{◌^◌};
+    ghost use Rattle.std.proofs.Common.{lit≤};
+    ghost use Rattle.sw_elem.specs.Facts.{number_facts};
+    ghost use Rattle.sw_elem.specs.KeyedLeaf.{unsigned_keeps};
+
+    ghost known = { number_facts };
+
+    fn facts() -> Facts {
+        facts::number_facts()
+    }
+
+    ghost keeps = { unsigned_keeps (2 ^ 32) (lit≤ tt) };
+}
+
 impl Serialize for u64 {
     ghost use Rattle.sw_elem.specs.Numbers.{number_writes};
 
@@ -167,6 +215,21 @@ impl Deserialize for u64 {
     }
 
     ghost lawful = { unsigned_number_lawful (2 ^ 64) };
+}
+
+impl Element for u64 {
+    ghost use Rattle.std.specs.Prelude.{◌^◌};
+    ghost use Rattle.std.proofs.Common.{lit≤};
+    ghost use Rattle.sw_elem.specs.Facts.{number_facts};
+    ghost use Rattle.sw_elem.specs.KeyedLeaf.{unsigned_keeps};
+
+    ghost known = { number_facts };
+
+    fn facts() -> Facts {
+        facts::number_facts()
+    }
+
+    ghost keeps = { unsigned_keeps (2 ^ 64) (lit≤ tt) };
 }
 
 impl Serialize for u128 {
@@ -208,6 +271,21 @@ impl Deserialize for u128 {
     ghost lawful = { unsigned_number_lawful (2 ^ 128) };
 }
 
+impl Element for u128 {
+    ghost use Rattle.std.specs.Prelude.{◌^◌};
+    ghost use Rattle.std.proofs.Common.{lit≤};
+    ghost use Rattle.sw_elem.specs.Facts.{number_facts};
+    ghost use Rattle.sw_elem.specs.KeyedLeaf.{unsigned_keeps};
+
+    ghost known = { number_facts };
+
+    fn facts() -> Facts {
+        facts::number_facts()
+    }
+
+    ghost keeps = { unsigned_keeps (2 ^ 128) (lit≤ tt) };
+}
+
 impl Serialize for usize {
     ghost use Rattle.sw_elem.specs.Numbers.{number_writes};
 
@@ -245,4 +323,19 @@ impl Deserialize for usize {
     }
 
     ghost lawful = { unsigned_number_lawful (2 ^ 64) };
+}
+
+impl Element for usize {
+    ghost use Rattle.std.specs.Prelude.{◌^◌};
+    ghost use Rattle.std.proofs.Common.{lit≤};
+    ghost use Rattle.sw_elem.specs.Facts.{number_facts};
+    ghost use Rattle.sw_elem.specs.KeyedLeaf.{unsigned_keeps};
+
+    ghost known = { number_facts };
+
+    fn facts() -> Facts {
+        facts::number_facts()
+    }
+
+    ghost keeps = { unsigned_keeps (2 ^ 64) (lit≤ tt) };
 }

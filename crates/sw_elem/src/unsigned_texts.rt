@@ -3,9 +3,11 @@
 //! Shown in decimal, without plus and leading zeros. A text is an optional `+` and then one or
 //! more ASCII digits, whose number is in range.
 
+use crate::classes;
 use crate::digits::unsigned_in;
 use crate::text::{ParseFail, TextForm};
 use std::alloc::{AllocError, Global};
+use sw_check::class::TextClass;
 use sw_tree::number::whole_text;
 use sw_tree::whole::Whole;
 
@@ -14,6 +16,7 @@ impl TextForm for u8 {
     ghost use Rattle.std.proofs.Common.{lit≤};
     ghost use Rattle.sw_elem.specs.Decimal.{decimal_shows, unsigned_parses};
     ghost use Rattle.sw_elem.specs.DecimalLaws.{unsigned_lawful};
+    ghost use Rattle.sw_elem.specs.Classes.{digit_class};
 
     const FREE: bool = true;
 
@@ -22,6 +25,8 @@ impl TextForm for u8 {
     ghost shows = { decimal_shows };
 
     ghost parses = { unsigned_parses (2 ^ 8) };
+
+    ghost class = { digit_class };
 
     fn show(&self, alloc: Global) -> Result<String, AllocError> {
         whole_text(alloc, Whole::from_u128(u128::from(*self)))
@@ -34,6 +39,10 @@ impl TextForm for u8 {
         }
     }
 
+    fn class() -> TextClass {
+        classes::digits()
+    }
+
     ghost lawful = { unsigned_lawful (2 ^ 8) (lit≤ tt) };
 }
 
@@ -42,6 +51,7 @@ impl TextForm for u16 {
     ghost use Rattle.std.proofs.Common.{lit≤};
     ghost use Rattle.sw_elem.specs.Decimal.{decimal_shows, unsigned_parses};
     ghost use Rattle.sw_elem.specs.DecimalLaws.{unsigned_lawful};
+    ghost use Rattle.sw_elem.specs.Classes.{digit_class};
 
     const FREE: bool = true;
 
@@ -50,6 +60,8 @@ impl TextForm for u16 {
     ghost shows = { decimal_shows };
 
     ghost parses = { unsigned_parses (2 ^ 16) };
+
+    ghost class = { digit_class };
 
     fn show(&self, alloc: Global) -> Result<String, AllocError> {
         whole_text(alloc, Whole::from_u128(u128::from(*self)))
@@ -62,6 +74,10 @@ impl TextForm for u16 {
         }
     }
 
+    fn class() -> TextClass {
+        classes::digits()
+    }
+
     ghost lawful = { unsigned_lawful (2 ^ 16) (lit≤ tt) };
 }
 
@@ -70,6 +86,7 @@ impl TextForm for u32 {
     ghost use Rattle.std.proofs.Common.{lit≤};
     ghost use Rattle.sw_elem.specs.Decimal.{decimal_shows, unsigned_parses};
     ghost use Rattle.sw_elem.specs.DecimalLaws.{unsigned_lawful};
+    ghost use Rattle.sw_elem.specs.Classes.{digit_class};
 
     const FREE: bool = true;
 
@@ -78,6 +95,8 @@ impl TextForm for u32 {
     ghost shows = { decimal_shows };
 
     ghost parses = { unsigned_parses (2 ^ 32) };
+
+    ghost class = { digit_class };
 
     fn show(&self, alloc: Global) -> Result<String, AllocError> {
         whole_text(alloc, Whole::from_u128(u128::from(*self)))
@@ -90,6 +109,10 @@ impl TextForm for u32 {
         }
     }
 
+    fn class() -> TextClass {
+        classes::digits()
+    }
+
     ghost lawful = { unsigned_lawful (2 ^ 32) (lit≤ tt) };
 }
 
@@ -98,6 +121,7 @@ impl TextForm for u64 {
     ghost use Rattle.std.proofs.Common.{lit≤};
     ghost use Rattle.sw_elem.specs.Decimal.{decimal_shows, unsigned_parses};
     ghost use Rattle.sw_elem.specs.DecimalLaws.{unsigned_lawful};
+    ghost use Rattle.sw_elem.specs.Classes.{digit_class};
 
     const FREE: bool = true;
 
@@ -106,6 +130,8 @@ impl TextForm for u64 {
     ghost shows = { decimal_shows };
 
     ghost parses = { unsigned_parses (2 ^ 64) };
+
+    ghost class = { digit_class };
 
     fn show(&self, alloc: Global) -> Result<String, AllocError> {
         whole_text(alloc, Whole::from_u128(u128::from(*self)))
@@ -118,6 +144,10 @@ impl TextForm for u64 {
         }
     }
 
+    fn class() -> TextClass {
+        classes::digits()
+    }
+
     ghost lawful = { unsigned_lawful (2 ^ 64) (lit≤ tt) };
 }
 
@@ -126,6 +156,7 @@ impl TextForm for u128 {
     ghost use Rattle.std.proofs.Common.{lit≤};
     ghost use Rattle.sw_elem.specs.Decimal.{decimal_shows, unsigned_parses};
     ghost use Rattle.sw_elem.specs.DecimalLaws.{unsigned_lawful};
+    ghost use Rattle.sw_elem.specs.Classes.{digit_class};
 
     const FREE: bool = true;
 
@@ -134,6 +165,8 @@ impl TextForm for u128 {
     ghost shows = { decimal_shows };
 
     ghost parses = { unsigned_parses (2 ^ 128) };
+
+    ghost class = { digit_class };
 
     fn show(&self, alloc: Global) -> Result<String, AllocError> {
         whole_text(alloc, Whole::from_u128(*self))
@@ -146,6 +179,10 @@ impl TextForm for u128 {
         }
     }
 
+    fn class() -> TextClass {
+        classes::digits()
+    }
+
     ghost lawful = { unsigned_lawful (2 ^ 128) (lit≤ tt) };
 }
 
@@ -154,6 +191,7 @@ impl TextForm for usize {
     ghost use Rattle.std.proofs.Common.{lit≤};
     ghost use Rattle.sw_elem.specs.Decimal.{decimal_shows, unsigned_parses};
     ghost use Rattle.sw_elem.specs.DecimalLaws.{unsigned_lawful};
+    ghost use Rattle.sw_elem.specs.Classes.{digit_class};
 
     const FREE: bool = true;
 
@@ -162,6 +200,8 @@ impl TextForm for usize {
     ghost shows = { decimal_shows };
 
     ghost parses = { unsigned_parses (2 ^ 64) };
+
+    ghost class = { digit_class };
 
     fn show(&self, alloc: Global) -> Result<String, AllocError> {
         whole_text(alloc, Whole::from_u128(*self as u128))
@@ -172,6 +212,10 @@ impl TextForm for usize {
             Some(value) => Ok(value as usize),
             None => Err(ParseFail::Refused),
         }
+    }
+
+    fn class() -> TextClass {
+        classes::digits()
     }
 
     ghost lawful = { unsigned_lawful (2 ^ 64) (lit≤ tt) };

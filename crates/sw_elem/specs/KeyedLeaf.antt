@@ -1,0 +1,217 @@
+-- The laws of whole numbers, at a type of any range, and of truth values.
+use Rattle.std.specs.Prelude.{◌≡◌, ℕ, ◌<◌, ◌≤◌, ◌^◌, ℤ, pos, negsuc, List, Bool, true, false, if◌then◌else◌, Option, Some, None, Ok, Err, Result}
+use Rattle.std.proofs.Common.{refl, ap, sym, ◌∙◌, subst, arith}
+use Rattle.std.specs.Option.{ok_or, option_or, option_and_then}
+use Rattle.std.specs.Fmt.{signed_decimal}
+use mir.Val.{hbits}
+use Rattle.std.specs.Int.{Width}
+use Rattle.std.proofs.lemmas.Bool.Decides.{Decides-ltb}
+use Rattle.sw_tree.specs.Image.{bool_text}
+use Rattle.sw_tree.specs.Kinds.{has}
+use Rattle.sw_tree.specs.Meaning.{Meaning, number, truth}
+use Rattle.sw_tree.specs.Meant.{IsBelow, IsSigned, IsTruth}
+use Rattle.sw_tree.specs.Number.{key_number}
+use Rattle.sw_tree.specs.NumberLaws.{IsInRange, key_number-signed_decimal}
+use Rattle.sw_tree.specs.Steps.{bind}
+use Rattle.sw_tree.specs.Tree.{Tree, int_at, truth_at, kind_of}
+use Rattle.sw_tree.specs.Tree as node
+use Rattle.sw_tree.specs.declared.mode.Mode.{Mode}
+use Rattle.sw_tree.specs.declared.mode.WireKind.{WireKind}
+use Rattle.sw_tree.specs.declared.mode.WireKind.TheVariants.{Json, Compact}
+use Rattle.sw_tree.specs.declared.mode.Place.{Place}
+use Rattle.sw_tree.specs.declared.mode.Place.TheVariants.{Value, Key}
+use Rattle.sw_tree.specs.declared.mode.Kind.{Kind}
+use Rattle.sw_tree.specs.declared.mode.Kind.TheVariants as kind
+use Rattle.sw_tree.specs.declared.fail.DeError.{DeError}
+use Rattle.sw_tree.specs.declared.fail.DeError.TheVariants as fail
+use Rattle.sw_check.specs.Facts.{claims_at, read_at}
+use Rattle.sw_check.specs.Form.{leaf}
+use Rattle.sw_elem.specs.DecimalLaws.{is_within-decides, half_most}
+use Rattle.sw_elem.specs.Equations.{own_spot, no_skips}
+use Rattle.sw_elem.specs.Facts.{only, with_kind, stands, keyed, number_facts, truth_facts}
+use Rattle.sw_elem.specs.KeyPlace.{is_plain_key, key_text, keyed_reads}
+use Rattle.sw_elem.specs.Laws.{HasSpotKinds}
+use Rattle.sw_elem.specs.Lawful.{Lawful, same_norm}
+use Rattle.sw_elem.specs.Leaf.{IsBack, IsLeaf, own_kind, leaf_lawful}
+use Rattle.sw_elem.specs.Numbers.{number_writes, is_below, is_within, ranged, number_reads}
+use Rattle.sw_elem.specs.Truths.{truth_named, truth_writes, truth_reads}
+
+-- ---- the kinds that are read
+
+only_has : (k : Kind) → has (only k) k ≡ true
+only_has kind.Null = refl
+only_has kind.Bool = refl
+only_has kind.Int = refl
+only_has kind.Text = refl
+only_has kind.Bytes = refl
+only_has kind.List = refl
+only_has kind.Map = refl
+
+or_text_has : (k : Kind) → has (with_kind (only k) kind.Text) k ≡ true
+or_text_has kind.Null = refl
+or_text_has kind.Bool = refl
+or_text_has kind.Int = refl
+or_text_has kind.Text = refl
+or_text_has kind.Bytes = refl
+or_text_has kind.List = refl
+or_text_has kind.Map = refl
+
+own_read : (k : Kind) (w : WireKind) (p : Place) (b : Bool) → has (read_at (keyed k) (record { wire = w; place = p; buffered = b })) k ≡ true
+own_read k Json Value b = only_has k
+own_read k Json Key false = or_text_has k
+own_read k Json Key true = only_has k
+own_read k Compact p b = only_has k
+
+text_read : (k : Kind) (w : WireKind) (p : Place) (b : Bool) → is_plain_key (record { wire = w; place = p; buffered = b }) ≡ true → has (read_at (keyed k) (record { wire = w; place = p; buffered = b })) kind.Text ≡ true
+text_read k Json Key false h = refl
+text_read k Json Key true h = absurd (cc)
+text_read k Json Value b h = absurd (cc)
+text_read k Compact Value b h = absurd (cc)
+text_read k Compact Key b h = absurd (cc)
+
+plain_text : (b : Bool) (s q : List ℕ) → (if b then Some s else None) ≡ Some q → b ≡ true
+plain_text true s q h = refl
+plain_text false s q h = absurd (cc)
+
+-- a text stands for something in that place alone
+key_texted : (m : Mode) (t : Tree) (q : List ℕ) → key_text m t ≡ Some q → (kind_of t ≡ kind.Text) × (is_plain_key m ≡ true)
+key_texted m (node.text s) q h = (refl, plain_text (is_plain_key m) s q h)
+key_texted m _ q h = absurd (cc)
+
+module _ {A : Type 0} (own : Tree → Option A) (named : List ℕ → Option A) (k : Kind) (is : (t : Tree) (a : A) → own t ≡ Some a → kind_of t ≡ k) (g : A → Result Meaning DeError) where
+  read_kind : (m : Mode) (t : Tree) (a : Option A) (s : Option (List ℕ)) (e : DeError) (v : Meaning) →
+      own t ≡ a → key_text m t ≡ s → bind (ok_or (option_or a (option_and_then named s)) e) g ≡ Ok v → has (read_at (keyed k) m) (kind_of t) ≡ true
+  read_kind m t (Some a) s e v h q p = ap (has (read_at (keyed k) m)) (is t a h) ∙ own_read k m.wire m.place m.buffered
+  read_kind m t None (Some s) e v h q p = let c = key_texted m t s q in ap (has (read_at (keyed k) m)) c.0 ∙ text_read k m.wire m.place m.buffered c.1
+  read_kind m t None None e v h q p = absurd (cc)
+
+  pub keyed_read : (m : Mode) (t : Tree) (v : Meaning) → bind (keyed_reads own named m t) g ≡ Ok v → has (read_at (keyed k) m) (kind_of t) ≡ true
+  keyed_read m t v p = read_kind m t (own t) (key_text m t) (fail.InvalidType (kind_of t)) v refl refl p
+
+module _ {A : Type 0} (g : A → Result Meaning DeError) (never : (a : A) (k : Kind) → g a ≡ Err (fail.InvalidType k) → ⊥) where
+  refused_kind : (t : Tree) (k : Kind) (a : Option A) → bind (ok_or a (fail.InvalidType (kind_of t))) g ≡ Err (fail.InvalidType k) → kind_of t ≡ k
+  refused_kind t k (Some a) p = absurd (never a k p)
+  refused_kind t k None p = cc
+
+  pub keyed_spots : (own : Tree → Option A) (named : List ℕ → Option A) (m : Mode) → HasSpotKinds (λ n t. bind (keyed_reads own named n t) g) own_spot m
+  keyed_spots own named m t k p = own_kind t k (refused_kind t k (option_or (own t) (option_and_then named (key_text m t))) p)
+
+-- ---- whole numbers
+
+number_node : Meaning → Tree
+number_node (number n) = node.int n
+number_node v = node.null
+
+number_written : (m : Mode) (v : Meaning) → number_writes m v ≡ Ok (number_node v)
+unfolding number_node
+number_written m (number n) = refl
+number_written m _ = refl
+
+int_kind : (t : Tree) (n : ℤ) → int_at t ≡ Some n → kind_of t ≡ kind.Int
+int_kind (node.int n) k h = refl
+int_kind _ k h = absurd (cc)
+
+ranged_never : (b : Bool) (v : Meaning) (k : Kind) → (if b then Ok v else Err fail.InvalidValue) ≡ Err (fail.InvalidType k) → ⊥
+ranged_never true v k p = cc
+ranged_never false v k p = cc
+
+module _ (fits : ℤ → Bool) (n : ℤ) (inside : fits n ≡ true) (r : IsInRange n) where
+  in_range : ranged fits n ≡ Ok (number n)
+  in_range = rw inside refl
+
+  spelled : bind (ok_or (option_or None (key_number (signed_decimal n))) (fail.InvalidType kind.Text)) (ranged fits) ≡ Ok (number n)
+  spelled = ap (λ (o : Option ℤ). bind (ok_or (option_or None o) (fail.InvalidType kind.Text)) (ranged fits)) (key_number-signed_decimal n r) ∙ in_range
+
+  number_claimed : (w : WireKind) (p : Place) (b : Bool) → claims_at (stands true false) (record { wire = w; place = p; buffered = b }) ≡ true →
+      IsBack (number_reads fits) (record { wire = w; place = p; buffered = b }) (node.int n) (number n)
+  number_claimed Compact p b h = (node.int n, refl, in_range)
+  number_claimed Json Value b h = (node.int n, refl, in_range)
+  number_claimed Json Key false h = (node.text (signed_decimal n), refl, spelled)
+  number_claimed Json Key true h = absurd (cc)
+
+-- every meaning is a number that fits the type, and a tree
+abbrev AreNumbers : (ℤ → Bool) → (Meaning → Type 0) → Type 0
+AreNumbers fits P = (v : Meaning) → P v → (n : ℤ) × (v ≡ number n) × (fits n ≡ true) × IsInRange n
+
+module _ (fits : ℤ → Bool) (P : Meaning → Type 0) (are : AreNumbers fits P) where
+  number_back : (m : Mode) → claims_at (stands true false) m ≡ true → (v : Meaning) → P v → IsBack (number_reads fits) m (number_node v) v
+  unfolding number_node
+  number_back m c v h =
+      let n = are v h in
+      subst (λ (u : Meaning). IsBack (number_reads fits) m (number_node u) u) (sym n.1) (number_claimed fits n.0 n.2 n.3 m.wire m.place m.buffered c)
+
+  number_kind : (v : Meaning) → P v → has (only kind.Int) (kind_of (number_node v)) ≡ true
+  unfolding number_node
+  number_kind v h = let n = are v h in ap (λ (u : Meaning). has (only kind.Int) (kind_of (number_node u))) n.1
+
+  number_leaf : IsLeaf P number_writes (number_reads fits) own_spot number_facts number_node
+  number_leaf = record {
+    writing = number_written;
+    back = number_back;
+    written = number_kind;
+    read = λ m t v p. keyed_read int_at key_number kind.Int int_kind (ranged fits) m t v p;
+    spots = λ m. keyed_spots (ranged fits) (λ n k p. ranged_never (fits n) (number n) k p) int_at key_number m;
+  }
+
+  number_keeps : Lawful P number_writes (number_reads fits) own_spot no_skips (leaf number_facts) same_norm (Unit {0})
+  number_keeps = leaf_lawful P number_writes (number_reads fits) own_spot number_facts number_node number_leaf
+
+below_are : (limit : ℕ) → limit ≤ 2 ^ 128 → AreNumbers (is_below limit) (IsBelow limit)
+below_are limit most (number (pos n)) h = (pos n, refl, (Decides-ltb n limit).1 h, omega arith)
+below_are limit most _ h = absurd h
+
+pub unsigned_keeps : (limit : ℕ) → limit ≤ 2 ^ 128 → Lawful (IsBelow limit) number_writes (number_reads (is_below limit)) own_spot no_skips (leaf number_facts) same_norm (Unit {0})
+unsigned_keeps limit most = number_keeps (is_below limit) (IsBelow limit) (below_are limit most)
+
+signed_are : (w : Width) → AreNumbers (is_within (2 ^ hbits w)) (IsSigned w)
+signed_are w (number (pos n)) h = let e : n < 2 ^ hbits w = h.sfits in (pos n, refl, (is_within-decides (2 ^ hbits w) (pos n)).1 e, omega (arith, half_most w))
+signed_are w (number (negsuc n)) h = let e : n < 2 ^ hbits w = h.sfits in (negsuc n, refl, (is_within-decides (2 ^ hbits w) (negsuc n)).1 e, omega (arith, half_most w))
+signed_are w _ h = absurd h
+
+pub signed_keeps : (w : Width) → Lawful (IsSigned w) number_writes (number_reads (is_within (2 ^ hbits w))) own_spot no_skips (leaf number_facts) same_norm (Unit {0})
+signed_keeps w = number_keeps (is_within (2 ^ hbits w)) (IsSigned w) (signed_are w)
+
+-- ---- truth values
+
+truth_node : Meaning → Tree
+truth_node (truth b) = node.truth b
+truth_node v = node.null
+
+truth_written : (m : Mode) (v : Meaning) → truth_writes m v ≡ Ok (truth_node v)
+unfolding truth_node
+truth_written m (truth b) = refl
+truth_written m _ = refl
+
+truth_kind : (t : Tree) (b : Bool) → truth_at t ≡ Some b → kind_of t ≡ kind.Bool
+truth_kind (node.truth b) k h = refl
+truth_kind _ k h = absurd (cc)
+
+truth_claimed : (t : Bool) (w : WireKind) (p : Place) (b : Bool) → claims_at (stands true false) (record { wire = w; place = p; buffered = b }) ≡ true →
+    IsBack truth_reads (record { wire = w; place = p; buffered = b }) (node.truth t) (truth t)
+truth_claimed t Compact p b h = (node.truth t, refl, refl)
+truth_claimed t Json Value b h = (node.truth t, refl, refl)
+truth_claimed true Json Key false h = (node.text (bool_text true), refl, refl)
+truth_claimed false Json Key false h = (node.text (bool_text false), refl, refl)
+truth_claimed t Json Key true h = absurd (cc)
+
+truth_back : (m : Mode) → claims_at (stands true false) m ≡ true → (v : Meaning) → IsTruth v → IsBack truth_reads m (truth_node v) v
+unfolding truth_node
+truth_back m c (truth b) h = truth_claimed b m.wire m.place m.buffered c
+truth_back m c _ h = absurd h
+
+truth_is : (v : Meaning) → IsTruth v → has (only kind.Bool) (kind_of (truth_node v)) ≡ true
+unfolding truth_node
+truth_is (truth b) h = refl
+truth_is _ h = absurd h
+
+truth_leaf : IsLeaf IsTruth truth_writes truth_reads own_spot truth_facts truth_node
+truth_leaf = record {
+  writing = truth_written;
+  back = truth_back;
+  written = truth_is;
+  read = λ m t v p. keyed_read truth_at truth_named kind.Bool truth_kind (λ b. Ok (truth b)) m t v p;
+  spots = λ m. keyed_spots (λ (b : Bool). Ok (truth b)) (λ b k p. cc) truth_at truth_named m;
+}
+
+pub truth_keeps : Lawful IsTruth truth_writes truth_reads own_spot no_skips (leaf truth_facts) same_norm (Unit {0})
+truth_keeps = leaf_lawful IsTruth truth_writes truth_reads own_spot truth_facts truth_node truth_leaf

@@ -1,0 +1,84 @@
+-- The laws of a type that writes a value as the same tree in every mode, and reads it back wherever it claims to.
+use Rattle.std.specs.Prelude.{◌≡◌, Bool, true, false, not, cond, Some, None, Ok}
+use Rattle.std.proofs.Common.{refl, ap, ◌∙◌}
+use Rattle.sw_tree.specs.Image.{image}
+use Rattle.sw_tree.specs.Meaning.{Meaning}
+use Rattle.sw_tree.specs.Nodes.{kinds, HasKind}
+use Rattle.sw_tree.specs.Kinds.{has}
+use Rattle.sw_tree.specs.Tree.{Tree, null, truth, int, text, bytes, list, map, kind_of}
+use Rattle.sw_tree.specs.declared.kinds.Kinds.{Kinds}
+use Rattle.sw_tree.specs.declared.mode.Mode.{Mode}
+use Rattle.sw_tree.specs.declared.mode.WireKind.{WireKind}
+use Rattle.sw_tree.specs.declared.mode.WireKind.TheVariants.{Json, Compact}
+use Rattle.sw_tree.specs.declared.mode.Place.{Place}
+use Rattle.sw_tree.specs.declared.mode.Place.TheVariants as place
+use Rattle.sw_tree.specs.declared.mode.Kind.{Kind}
+use Rattle.sw_check.specs.Form.{leaf}
+use Rattle.sw_check.specs.Facts.{claims_at, read_at}
+use Rattle.sw_check.specs.Rules.{holds}
+use Rattle.sw_check.specs.Blame.{here, IsSound}
+use Rattle.sw_check.specs.declared.facts.Claims.{Claims}
+use Rattle.sw_check.specs.declared.facts.Facts.{Facts}
+use Rattle.sw_check.specs.declared.rule.Rule.TheVariants.{S1, S2}
+use Rattle.sw_elem.specs.Equations.{Writes, Reads, Spots, no_skips}
+use Rattle.sw_elem.specs.Facts.{everywhere}
+use Rattle.sw_elem.specs.Laws.{HasSpotKinds}
+use Rattle.sw_elem.specs.Lawful.{Lawful, same_norm}
+
+-- the tree has an image in the mode, which is read as that meaning
+abbrev pub IsBack : Reads → Mode → Tree → Meaning → Type 0
+IsBack reads m t v = (i : Tree) × (image m.wire m.place t ≡ Some i) × (reads m i ≡ Ok v)
+
+-- `node` gives the tree of each meaning
+pub record IsLeaf (P : Meaning → Type 0) (writes : Writes) (reads : Reads) (spot : Spots) (f : Facts) (node : Meaning → Tree) : Type 0 where
+  pub writing : (m : Mode) (v : Meaning) → writes m v ≡ Ok (node v)
+  pub back : (m : Mode) → claims_at f.claims m ≡ true → (v : Meaning) → P v → IsBack reads m (node v) v
+  pub written : (v : Meaning) → P v → has f.written (kind_of (node v)) ≡ true
+  pub read : (m : Mode) (t : Tree) (v : Meaning) → reads m t ≡ Ok v → has (read_at f m) (kind_of t) ≡ true
+  pub spots : (m : Mode) → HasSpotKinds reads spot m
+
+-- a tree's own node has the number 0
+pub own_kind : (t : Tree) (k : Kind) → kind_of t ≡ k → HasKind (kinds t) 0 k
+own_kind null k h = ap Some h
+own_kind (truth b) k h = ap Some h
+own_kind (int n) k h = ap Some h
+own_kind (text s) k h = ap Some h
+own_kind (bytes s) k h = ap Some h
+own_kind (list ts) k h = ap Some h
+own_kind (map es) k h = ap Some h
+
+same_kinds : (ks : Kinds) (c : Claims) (w : WireKind) (p : Place) (b : Bool) → read_at (everywhere ks c) (record { wire = w; place = p; buffered = b }) ≡ ks
+same_kinds ks c Json place.Value b = refl
+same_kinds ks c Json place.Key true = refl
+same_kinds ks c Json place.Key false = refl
+same_kinds ks c Compact p b = refl
+
+-- what is read everywhere is read in each mode
+pub everywhere_read : (ks : Kinds) (c : Claims) (m : Mode) (k : Kind) → has ks k ≡ true → has (read_at (everywhere ks c) m) k ≡ true
+everywhere_read ks c m k h = ap (λ (s : Kinds). has s k) (same_kinds ks c m.wire m.place m.buffered) ∙ h
+
+second_holds : (a b : Bool) → here (cond (not a) (Some S2) (cond (not b) (Some S1) None)) None ≡ None → b ≡ true
+second_holds true true h = refl
+second_holds true false h = absurd (cc)
+second_holds false b h = absurd (cc)
+
+-- where a leaf is sound, it claims the mode
+pub claimed : (f : Facts) (m : Mode) → IsSound (leaf f) m → claims_at f.claims m ≡ true
+claimed f m h = second_holds (holds S2 (leaf f) m) (claims_at f.claims m) h
+
+module _ (P : Meaning → Type 0) (writes : Writes) (reads : Reads) (spot : Spots) (f : Facts) (node : Meaning → Tree) (is : IsLeaf P writes reads spot f node) where
+  same : (m : Mode) (v : Meaning) (t : Tree) → writes m v ≡ Ok t → node v ≡ t
+  same m v t p = let e = is.writing m v in cc
+
+  pub leaf_lawful : Lawful P writes reads spot no_skips (leaf f) same_norm (Unit {0})
+  leaf_lawful = record {
+    images = λ m s v t h p. let b = is.back m (claimed f m s) v h in let e = same m v t p in (b.0, cc (ap (image m.wire m.place) e, b.1));
+    back = λ u m s v t i h p q. let b = is.back m (claimed f m s) v h in let e = same m v t p in cc (ap (image m.wire m.place) e, b.1, b.2);
+    never_key = λ m s v h p. let e = is.writing m v in cc;
+    written_kinds = λ m v t h p. let w = is.written v h in let e = same m v t p in cc (ap (λ u. has f.written (kind_of u)) e);
+    read_kinds = is.read;
+    unmarked = λ m v. cc (is.writing _ v, is.writing m v);
+    exact = λ m g v h. refl;
+    spot_kinds = is.spots;
+    note_kinds = λ m t. tt;
+  }

@@ -1,0 +1,38 @@
+//! The classes of the texts that the types show.
+
+ghost use Rattle.std.specs.Prelude.{◌≡◌};
+ghost use Rattle.sw_elem.specs.Classes as classes;
+
+use sw_check::class::TextClass;
+
+/// The digits.
+pub(crate) fn digits() -> TextClass
+    ensures { result ≡ classes.digit_class }
+{
+    TextClass::of("0123456789")
+}
+
+/// The digits and the minus.
+pub(crate) fn signed_digits() -> TextClass
+    ensures { result ≡ classes.signed_class }
+{
+    TextClass::of("-0123456789")
+}
+
+/// The letters of `true` and `false`.
+pub(crate) fn truth_letters() -> TextClass
+    ensures { result ≡ classes.truth_class }
+{
+    TextClass::of("aeflrstu")
+}
+
+/// Every byte, in texts that are never empty where it is said.
+pub(crate) fn every_byte(never_empty: bool) -> TextClass
+    ensures { result ≡ classes.byte_class never_empty }
+{
+    TextClass {
+        never_empty,
+        ascii: u128::MAX,
+        other: true,
+    }
+}
