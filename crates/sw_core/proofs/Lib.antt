@@ -1,3 +1,4 @@
 pub mod Logs
 pub mod Lists
 pub mod Recoding
+pub mod Again

@@ -1,6 +1,16 @@
 pub mod Each
+pub mod EachBack
+pub mod NodeKinds
 pub mod Display
 pub mod DisplayLaws
+pub mod DisplayKeeps
 pub mod Lists
 pub mod ListLaws
+pub mod ListImages
+pub mod ListBack
+pub mod ListSpots
+pub mod VecKeeps
+pub mod Faithful
 pub mod Recoding
+pub mod Again
+pub mod ByteWire

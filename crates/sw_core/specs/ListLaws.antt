@@ -28,7 +28,7 @@ module _ {A B E : Type 0} (g : B → Result A E) (P : A → Type 0) (one : (y : 
       let c = traverse-cons g y ys xs p in
       rw c.4 (one y c.0 c.2, traverse-each ys c.1 c.3)
 
-later_refused : {A E : Type 0} (v : A) (q : Result (List A) E) (e : E) → bind q (λ vs. Ok (v ∷ vs)) ≡ Err e → q ≡ Err e
+pub later_refused : {A E : Type 0} (v : A) (q : Result (List A) E) (e : E) → bind q (λ vs. Ok (v ∷ vs)) ≡ Err e → q ≡ Err e
 later_refused v (Ok vs) e p = absurd (cc)
 later_refused v (Err d) e p = cc
 
@@ -36,7 +36,7 @@ listed_ok : (r : Result (List Meaning) DeError) (v : Meaning) → bind r (λ vs.
 listed_ok (Ok vs) v p = (vs, refl, (cc))
 listed_ok (Err e) v p = absurd (cc)
 
-listed_refused : (r : Result (List Meaning) DeError) (e : DeError) → bind r (λ vs. Ok (list (meanings vs))) ≡ Err e → r ≡ Err e
+pub listed_refused : (r : Result (List Meaning) DeError) (e : DeError) → bind r (λ vs. Ok (list (meanings vs))) ≡ Err e → r ≡ Err e
 listed_refused (Ok vs) e p = absurd (cc)
 listed_refused (Err d) e p = cc
 

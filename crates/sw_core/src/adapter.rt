@@ -1,4 +1,5 @@
-use std::alloc::Global;
+use std::alloc::{AllocError, Global};
+use sw_check::expr::Expr;
 use sw_tree::fail::{DeFail, SerFail};
 use sw_tree::meant::Meant;
 use sw_tree::mode::Mode;
@@ -58,4 +59,27 @@ pub trait DeserializeAs<T: Meant>: Sized {
         ensures free { FREE ≡ true → ReadsFreely result };
 
     ghost lawful: { LawfulReading T.is_meaning reads spot };
+}
+
+/// A nest whose values, once written, read back where its expression is sound.
+///
+/// It names its expression; the norm, which is what reading back gives of a value; and what it
+/// assumes. Its laws follow from those of its parts.
+pub trait Adapter<T: Meant>: SerializeAs<T> + DeserializeAs<T> {
+    ghost use Rattle.std.specs.Prelude.{◌≡◌, IfOk};
+    ghost use Rattle.sw_check.specs.Form.{Form};
+    ghost use Rattle.sw_elem.specs.Laws.{Norm};
+    ghost use Rattle.sw_elem.specs.Lawful.{Lawful};
+
+    ghost expr: { Form };
+
+    ghost norm: { Norm };
+
+    ghost assumes: { Type 0 };
+
+    /// The nest's expression. The one error is want of memory.
+    fn describe(alloc: Global) -> Result<Expr, AllocError>
+        ensures { IfOk result (λ e. e ≡ expr) };
+
+    ghost keeps: { Lawful T.is_meaning Self.writes Self.reads Self.spot Self.skips expr norm assumes };
 }

@@ -1,14 +1,24 @@
-ghost use Rattle.std.specs.Prelude.{◌≡◌, true};
+ghost use Rattle.std.specs.Prelude.{◌≡◌, ◌≢◌, ◌≤◌, true, Err, IfOk};
 ghost use Rattle.sw_tree.specs.Placed.{placed, placed_notes};
 ghost use Rattle.sw_tree.specs.View.{seen, tree_of};
+ghost use Rattle.sw_tree.specs.Mode.{plain};
+ghost use Rattle.sw_tree.specs.Tree.{depth};
+ghost use Rattle.sw_tree.specs.Proper.{IsProper};
+ghost use Rattle.sw_tree.specs.Wires.{IsPrinted};
+ghost use Rattle.sw_tree.specs.declared.fail.SerError.TheVariants.{Key};
+ghost use Rattle.sw_check.specs.Grade.{grade};
+ghost use Rattle.sw_check.specs.declared.grade.Grade.TheVariants.{Exact};
 ghost use Rattle.sw_elem.specs.Answers.{IsWritten, IsRead, IsLogged, ReadsFreely};
 ghost use Rattle.sw_core.specs.Recoding.{answer, skipped, IsRecoded, IsNoted};
+ghost use Rattle.sw_core.specs.Again.{ReadsAgain};
+ghost use Rattle.sw_core.specs.declared.recode.RecodeError.TheVariants.{Unwritable};
 
-use crate::adapter::{DeserializeAs, SerializeAs};
+use crate::adapter::{Adapter, DeserializeAs, SerializeAs};
 use crate::recode::RecodeError;
+use crate::token::Faithful;
 use std::alloc::Global;
 use std::marker::PhantomData;
-use sw_tree::fail::{DeFail, SerFail};
+use sw_tree::fail::{DeFail, PrintError, SerFail};
 use sw_tree::meant::Meant;
 use sw_tree::mode::Mode;
 use sw_tree::node::Node;
@@ -49,28 +59,47 @@ impl<A> As<A> {
 
     /// The value that the bytes mean, and the text that it is written as.
     ///
-    /// In this order: an error of the wire, where the bytes spell no tree; `Refused`, where `A` refuses
-    /// the tree, at the place of the refused node; `Unwritable`, where `A` doesn't write the value, or,
-    /// with `Key`, where the wire doesn't print the written tree. `Memory` may come at any step.
+    /// With the token these bytes, read again, give the norm of the value; where the token's grade is `Exact`, the
+    /// value itself. That holds under what `A` assumes.
+    ///
+    /// In this order: `Syntax`, `NotWhole` or `TooDeep`, exactly where the bytes spell no tree of `W`, for that
+    /// reason; `Refused`, exactly where `A` refuses the tree, with its reason and the place of the refused node;
+    /// `Unwritable`, exactly where `A` doesn't write the value, with its reason, which is never `Key`.
+    /// `Memory` may come at any step.
     ///
     /// An error of the wire leaves the log. Else it gains the refusals that `A` passed over while it
     /// read; after `Memory` it has gained the first of them alone, or all.
     pub fn recode<T: Meant, W: Wire>(
         alloc: Global,
+        token: &Faithful<A, T, W>,
         log: &mut Skipped,
         bytes: &[u8],
     ) -> Result<(T, Vec<u8>), RecodeError>
     where
-        A: SerializeAs<T> + DeserializeAs<T>,
+        A: Adapter<T>,
         ensures answers { IsRecoded T.meaning result (answer A.reads A.spot A.writes W.ID W.spelled W.printed bytes.now) }
         ensures logs { IsNoted result log.old (skipped A.skips W.ID W.spelled bytes.now) log.new }
+        ensures again { A.assumes → IfOk result (λ p. ReadsAgain (A.reads (plain W.ID)) W.spelled p.1.items (A.norm (plain W.ID) (T.meaning p.0))) }
+        ensures same { A.assumes → grade A.expr (plain W.ID) ≡ Exact
+            → IfOk result (λ p. ReadsAgain (A.reads (plain W.ID)) W.spelled p.1.items (T.meaning p.0)) }
+        ensures never_key { result ≢ Err (Unwritable Key) }
     {
         let mode = Mode::plain(W::ID);
         let doc = W::read_tree(alloc, bytes)?;
         let value = A::deserialize_as(alloc, doc.view(), mode, log)?;
         drop(doc);
         let written = A::serialize_as(alloc, &value, mode)?;
-        let text = W::print(alloc, &written)?;
+        let text = text_of::<W>(alloc, written)?;
         Ok((value, text))
     }
+}
+
+/// The text of the node, which is then let go; and what the law of a wire asks of a node's tree.
+fn text_of<W: Wire>(alloc: Global, node: Node) -> Result<Vec<u8>, PrintError>
+    ensures text { IsPrinted result (W.printed node) }
+    ensures proper { IsProper node }
+    ensures shallow { depth node ≤ 128 }
+{
+    let _kind = node.kind();
+    W::print(alloc, &node)
 }

@@ -1,5 +1,7 @@
-use crate::adapter::{DeserializeAs, SerializeAs};
-use std::alloc::Global;
+use crate::adapter::{Adapter, DeserializeAs, SerializeAs};
+use std::alloc::{AllocError, Global};
+use sw_check::expr::Expr;
+use sw_elem::facts::text_facts;
 use sw_elem::refuse::refused_at;
 use sw_elem::text::{ParseFail, TextForm};
 use sw_tree::fail::{DeError, DeFail, SerFail};
@@ -59,5 +61,24 @@ impl<T: TextForm> DeserializeAs<T> for DisplayFromStr {
         }
     }
 
-    ghost lawful = { display_lawful T.is_meaning T.shows T.parses T.lawful };
+    ghost lawful = { display_lawful T.is_meaning T.shows T.parses T.class T.lawful };
+}
+
+impl<T: TextForm> Adapter<T> for DisplayFromStr {
+    ghost use Rattle.sw_check.specs.Form.{leaf};
+    ghost use Rattle.sw_elem.specs.Lawful.{same_norm};
+    ghost use Rattle.sw_elem.specs.Facts.{text_facts};
+    ghost use Rattle.sw_core.specs.DisplayKeeps.{display_keeps};
+
+    ghost expr = { leaf text_facts };
+
+    ghost norm = { same_norm };
+
+    ghost assumes = { Unit {0} };
+
+    fn describe(_alloc: Global) -> Result<Expr, AllocError> {
+        Ok(Expr::leaf(text_facts()))
+    }
+
+    ghost keeps = { display_keeps T.is_meaning T.shows T.parses T.class T.lawful };
 }

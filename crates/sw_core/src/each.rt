@@ -22,7 +22,9 @@ pub fn write_each<T: Meant, A: SerializeAs<T>>(
 ) -> Result<Vec<Node>, SerFail>
     ensures { AreWritten result (traverse (λ x. A.writes mode (T.meaning x)) values.now) }
 {
-    let mut nodes = Vec::new(alloc);
+    let Ok(mut nodes) = Vec::with_capacity(alloc, values.len()) else {
+        return Err(SerFail::Memory);
+    };
     for value in values {
         let node = A::serialize_as(alloc, value, mode)?;
         if nodes.push(node).is_err() {
@@ -32,9 +34,10 @@ pub fn write_each<T: Meant, A: SerializeAs<T>>(
     Ok(nodes)
 }
 
-/// Reads each item by `A`.
+/// Reads each item by `A`, into a list with room for so many taken at once.
 pub fn read_each<T: Meant, A: DeserializeAs<T>>(
     alloc: Global,
+    room: usize,
     items: Items<'_>,
     mode: Mode,
     log: &mut Skipped,
@@ -42,7 +45,9 @@ pub fn read_each<T: Meant, A: DeserializeAs<T>>(
     ensures answer { AreRead T.meaning result (traverse (placed (A.reads mode) (A.spot mode)) items.entry) }
     ensures logs { IsLogged result log.old (logs_each (placed (A.reads mode) (A.spot mode)) (λ s. placed_notes s (A.skips mode s.tree)) items.entry) log.new }
 {
-    let mut values = Vec::new(alloc);
+    let Ok(mut values) = Vec::with_capacity(alloc, room) else {
+        return Err(DeFail::Memory);
+    };
     for item in items {
         let value = match A::deserialize_as(alloc, item, mode, log) {
             Ok(value) => value,

@@ -5,15 +5,19 @@ pub mod adapter;
 pub mod as_;
 pub mod display;
 mod each;
+pub mod faithful;
+pub mod formats;
 pub mod recode;
 pub mod same;
+pub mod token;
 pub mod vec;
 
-pub use adapter::{DeserializeAs, SerializeAs};
+pub use adapter::{Adapter, DeserializeAs, SerializeAs};
 pub use as_::As;
 pub use display::DisplayFromStr;
 pub use recode::RecodeError;
 pub use same::Same;
+pub use token::Faithful;
 
 #[cfg(test)]
 mod tests;

@@ -11,7 +11,8 @@ pub enum RecodeError {
     TooDeep { at: usize },
     /// The adapter refuses the tree.
     Refused(Refusal),
-    /// The adapter doesn't write the value, or the wire doesn't print its tree (`Key`).
+    /// The adapter doesn't write the value. With a token never `Key`, which stands for a tree that the wire
+    /// doesn't print.
     Unwritable(SerError),
     Memory,
 }

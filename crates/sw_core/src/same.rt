@@ -1,5 +1,7 @@
-use crate::adapter::{DeserializeAs, SerializeAs};
-use std::alloc::Global;
+use crate::adapter::{Adapter, DeserializeAs, SerializeAs};
+use std::alloc::{AllocError, Global};
+use sw_check::expr::Expr;
+use sw_elem::element::Element;
 use sw_elem::serialize::{Deserialize, Serialize};
 use sw_tree::fail::{DeFail, SerFail};
 use sw_tree::mode::Mode;
@@ -42,4 +44,21 @@ impl<T: Deserialize> DeserializeAs<T> for Same {
     }
 
     ghost lawful = { T.lawful };
+}
+
+impl<T: Element> Adapter<T> for Same {
+    ghost use Rattle.sw_check.specs.Form.{leaf};
+    ghost use Rattle.sw_elem.specs.Lawful.{same_norm};
+
+    ghost expr = { leaf T.known };
+
+    ghost norm = { same_norm };
+
+    ghost assumes = { Unit {0} };
+
+    fn describe(_alloc: Global) -> Result<Expr, AllocError> {
+        Ok(Expr::leaf(T::facts()))
+    }
+
+    ghost keeps = { T.keeps };
 }

@@ -1,10 +1,20 @@
-use crate::adapter::DeserializeAs;
+ghost use Rattle.std.specs.Prelude.{◌≡◌, pos, IfSome};
+ghost use Rattle.sw_tree.specs.Tree.{int};
+
+use crate::adapter::{Adapter, DeserializeAs};
 use crate::as_::As;
 use crate::display::DisplayFromStr;
+use crate::faithful::faithful;
 use crate::recode::RecodeError;
 use crate::same::Same;
 use std::alloc::{AllocError, Global};
+use sw_check::blame::CheckFail;
+use sw_check::check;
+use sw_check::expr::Expr;
+use sw_check::grade::Grade;
+use sw_check::rule::Rule;
 use sw_tree::builder::DocBuilder;
+use sw_tree::content::Content;
 use sw_tree::doc::Doc;
 use sw_tree::fail::{DeError, DeFail, PrintError, Refusal, WireError};
 use sw_tree::mode::{Kind, Mode, WireKind};
@@ -81,8 +91,8 @@ fn texts_are_read_and_written_again(rt: HostRuntime) -> Result<(), AllocError> {
         Ok(written) => written,
         Err(_) => Node::null(),
     };
-    match written.items() {
-        Some([first, second]) => {
+    match written.content() {
+        Content::List([first, second]) => {
             assert!(rt; first.as_text() == Some("1"));
             assert!(rt; second.as_text() == Some("20"));
         }
@@ -126,41 +136,41 @@ fn a_number_alone_is_read_without_memory(rt: HostRuntime) {
     assert!(rt; !<Numbers as DeserializeAs<Vec<u32>>>::FREE);
 }
 
-/// A wire on which bytes spell the text that they are, and texts alone are printed.
-struct TextWire;
+/// A wire on which one byte spells the number that it is, and alone is printed.
+struct ByteWire;
 
-impl Wire for TextWire {
-    ghost use Rattle.std.specs.Prelude.{Ok, Err, if◌then◌else◌};
-    ghost use Rattle.std.specs.Str.{is_utf8};
-    ghost use Rattle.sw_tree.specs.Tree.{text, text_at};
-    ghost use Rattle.sw_tree.specs.declared.mode.WireKind.TheVariants.{Json};
-    ghost use Rattle.sw_tree.specs.declared.fail.WireError.TheVariants.{Syntax};
+impl Wire for ByteWire {
+    ghost use Rattle.sw_tree.specs.declared.mode.WireKind.TheVariants.{Compact};
+    ghost use Rattle.sw_core.specs.ByteWire.{byte_spelled, byte_printed, byte_prints_images};
 
-    const ID: WireKind = WireKind::Json;
+    const ID: WireKind = WireKind::Compact;
 
-    ghost ID = { Json };
+    ghost ID = { Compact };
 
-    ghost spelled = { λ s. if is_utf8 s then Ok (text s) else Err Syntax };
+    ghost spelled = { byte_spelled };
 
-    ghost printed = { text_at };
+    ghost printed = { byte_printed };
+
+    ghost prints_images = { byte_prints_images };
 
     fn read_tree<'de>(alloc: Global, bytes: &'de [u8]) -> Result<Doc<'de>, WireError> {
-        match std::str::from_utf8(bytes) {
-            Err(_) => Err(WireError::Syntax),
-            Ok(text) => {
+        match bytes {
+            [] => Err(WireError::Syntax),
+            [byte] => {
                 let mut builder = DocBuilder::new(alloc, bytes);
-                match builder.copied(text) {
+                match builder.int(Whole::from_u128(u128::from(*byte))) {
                     Ok(()) => Ok(builder.finish()),
                     Err(_) => Err(WireError::Memory),
                 }
             }
+            _ => Err(WireError::Memory),
         }
     }
 
     fn print(alloc: Global, node: &Node) -> Result<Vec<u8>, PrintError> {
-        match node.as_text() {
-            None => Err(PrintError::Key),
-            Some(text) => match Vec::from_slice(alloc, text.as_bytes()) {
+        match byte_of(node) {
+            None => Err(PrintError::Memory),
+            Some(byte) => match Vec::from_slice(alloc, [byte].as_slice()) {
                 Ok(bytes) => Ok(bytes),
                 Err(_) => Err(PrintError::Memory),
             },
@@ -168,38 +178,93 @@ impl Wire for TextWire {
     }
 }
 
-#[test]
-fn a_text_is_recoded(rt: HostRuntime) {
-    for (bytes, want) in [
-        (b"+07".as_slice(), Ok((7, b"7".as_slice()))),
-        (
-            b"x",
-            Err(RecodeError::Refused(Refusal {
-                error: DeError::Text,
-                place: 0,
-            })),
-        ),
-        (b"\xff", Err(RecodeError::Syntax)),
-    ] {
-        let mut log = Skipped::new(rt.alloc());
-        match As::<DisplayFromStr>::recode::<u32, TextWire>(rt.alloc(), &mut log, bytes) {
-            Ok((value, text)) => assert!(rt; want == Ok((value, text.as_slice()))),
-            Err(error) => assert!(rt; want == Err(error)),
-        }
-        assert!(rt; log.notes().is_empty());
+/// The number of a node that is one below 256.
+fn byte_of(node: &Node) -> Option<u8>
+    ensures { IfSome result (λ n. node.now ≡ int (pos n)) }
+{
+    let number = node.as_int()?;
+    let natural = number.to_u128()?;
+    if natural < 256 {
+        Some(natural as u8)
+    } else {
+        None
     }
 }
 
 #[test]
-fn an_element_is_recoded_by_itself(rt: HostRuntime) {
-    let mut log = Skipped::new(rt.alloc());
-    match As::<Same>::recode::<String, TextWire>(rt.alloc(), &mut log, b"x") {
-        Ok((value, text)) => {
-            assert!(rt; value.as_str() == "x");
-            assert!(rt; text.as_slice() == b"x".as_slice());
-        }
+fn a_number_is_recoded(rt: HostRuntime) {
+    let alloc = rt.alloc();
+    match faithful::<Same, u8, ByteWire>(alloc) {
         Err(_) => assert!(rt; false),
+        Ok(token) => {
+            assert!(rt; token.grade() == Grade::Exact);
+            for (bytes, want) in [
+                (b"\x07".as_slice(), Ok((7, b"\x07".as_slice()))),
+                (b"", Err(RecodeError::Syntax)),
+            ] {
+                let mut log = Skipped::new(alloc);
+                match As::<Same>::recode(alloc, &token, &mut log, bytes) {
+                    Ok((value, text)) => assert!(rt; want == Ok((value, text.as_slice()))),
+                    Err(error) => assert!(rt; want == Err(error)),
+                }
+                assert!(rt; log.notes().is_empty());
+            }
+        }
     }
+}
+
+#[test]
+fn a_number_is_no_list(rt: HostRuntime) {
+    let alloc = rt.alloc();
+    match faithful::<Numbers, Vec<u32>, ByteWire>(alloc) {
+        Err(_) => assert!(rt; false),
+        Ok(token) => {
+            assert!(rt; token.grade() == Grade::Exact);
+            let mut log = Skipped::new(alloc);
+            match As::<Numbers>::recode(alloc, &token, &mut log, b"\x07".as_slice()) {
+                Ok(_) => assert!(rt; false),
+                Err(error) => assert!(rt;
+                    error
+                        == RecodeError::Refused(Refusal {
+                            error: DeError::InvalidType(Kind::Int),
+                            place: 0
+                        })
+                ),
+            }
+        }
+    }
+}
+
+/// The rule that the root of the expression fails in the mode, if it does.
+fn fault(alloc: Global, expr: &Expr, mode: Mode) -> Option<Rule> {
+    match check(alloc, expr, mode) {
+        Err(CheckFail::Blame(blame)) => Some(blame.rule),
+        _ => None,
+    }
+}
+
+#[test]
+fn nests_are_described(rt: HostRuntime) -> Result<(), AllocError> {
+    let alloc = rt.alloc();
+    let value = Mode::plain(WireKind::Json);
+    let key = value.key();
+    let number = <Same as Adapter<u8>>::describe(alloc)?;
+    let text = <DisplayFromStr as Adapter<u8>>::describe(alloc)?;
+    let texts = <Numbers as Adapter<Vec<u32>>>::describe(alloc)?;
+    for (mode, number_fault, text_fault, texts_fault) in [
+        (value, None, None, None),
+        (key, None, None, Some(Rule::S2)),
+        (key.buffer(), Some(Rule::S1), None, Some(Rule::S2)),
+    ] {
+        assert!(rt; fault(alloc, &number, mode) == number_fault);
+        assert!(rt; fault(alloc, &text, mode) == text_fault);
+        assert!(rt; fault(alloc, &texts, mode) == texts_fault);
+    }
+    Ok(())
+}
+
+#[test]
+fn an_element_is_free_where_it_is_a_number(rt: HostRuntime) {
     assert!(rt; <Same as DeserializeAs<u32>>::FREE);
     assert!(rt; !<Same as DeserializeAs<String>>::FREE);
 }

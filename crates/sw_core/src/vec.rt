@@ -1,8 +1,9 @@
 #![tactic(auto, using(crate::proofs::Lists::written))]
 
-use crate::adapter::{DeserializeAs, SerializeAs};
+use crate::adapter::{Adapter, DeserializeAs, SerializeAs};
 use crate::each;
-use std::alloc::Global;
+use std::alloc::{AllocError, Global};
+use sw_check::expr::Expr;
 use sw_elem::refuse::refused_at;
 use sw_tree::fail::{DeError, DeFail, SerError, SerFail};
 use sw_tree::meant::Meant;
@@ -54,9 +55,28 @@ impl<T: Meant, A: DeserializeAs<T>> DeserializeAs<Vec<T>> for Vec<A> {
     ) -> Result<Vec<T>, DeFail> {
         match view.items() {
             None => Err(refused_at(view, DeError::InvalidType(view.kind()))),
-            Some(items) => each::read_each::<T, A>(alloc, items, mode.value(), log),
+            Some(items) => each::read_each::<T, A>(alloc, view.len(), items, mode.value(), log),
         }
     }
 
     ghost lawful = { list_lawful T.is_meaning A.reads A.spot A.lawful };
+}
+
+/// It is as faithful as its parts: the norm of a list has its items' norms.
+impl<T: Meant, A: Adapter<T>> Adapter<Vec<T>> for Vec<A> {
+    ghost use Rattle.sw_check.specs.Form.{vec};
+    ghost use Rattle.sw_core.specs.ListBack.{list_norm};
+    ghost use Rattle.sw_core.specs.VecKeeps.{vec_keeps};
+
+    ghost expr = { vec A.expr };
+
+    ghost norm = { list_norm A.norm };
+
+    ghost assumes = { A.assumes };
+
+    fn describe(alloc: Global) -> Result<Expr, AllocError> {
+        Expr::vec(alloc, A::describe(alloc)?)
+    }
+
+    ghost keeps = { vec_keeps T.is_meaning A.writes A.reads A.spot A.skips A.expr A.norm A.assumes A.keeps };
 }

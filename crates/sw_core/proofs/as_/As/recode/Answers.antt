@@ -3,6 +3,7 @@ use Rattle.sw_tree.specs.View.{seen}
 use Rattle.sw_tree.specs.Mode.{plain}
 use Rattle.sw_core.specs.Recoding.{skipped}
 use Rattle.sw_core.proofs.Recoding.{wire_noted, write_noted, print_noted, log_skipped}
+use Rattle.sw_core.proofs.Again.{again, again_same, never_unprinted, print_never_key}
 use Rattle.sw_core.proofs.as_.As.recode.Goals as goal
 
 pub returns-in_err-doc-clause-logs : goal.returns-in_err-doc-clause-logs
@@ -22,3 +23,25 @@ returns-in_err-text-clause-logs g c =
     log_skipped (g.W.Wire.spelled c.args.bytes.now) c.in_ok-doc.doc.tree (seen c.view.result) c.plain-mode.result g.W.Wire.ID g.A.DeserializeAs.skips c.args.log.now c.deserialize_as.new.log
     c.in_ok-doc.ensures c.view.ensures (c.plain-mode.ensures ∙ ap plain c.ID.ensures) c.in_ok-value.ensures.logs in
     print_noted c.from_residual-in_err-text.result c.in_err-text.field-0.0 c.args.log.now (skipped g.A.DeserializeAs.skips g.W.Wire.ID g.W.Wire.spelled c.args.bytes.now) c.deserialize_as.new.log c.from_residual-in_err-text.ensures.1 k
+
+pub returns-in_err-text-clause-never_key : goal.returns-in_err-text-clause-never_key
+returns-in_err-text-clause-never_key g c =
+    print_never_key c.from_residual-in_err-text.result c.in_err-text.field-0.0 (g.W.Wire.printed c.in_ok-written.written) c.from_residual-in_err-text.ensures.1 c.in_err-text.ensures.text
+    (never_unprinted g.T.Named.is_meaning g.A.SerializeAs.writes g.A.DeserializeAs.reads g.A.DeserializeAs.spot g.A.DeserializeAs.skips g.A.Adapter.expr g.A.Adapter.norm g.A.Adapter.assumes g.met.A.Adapter.keeps g.met.A.DeserializeAs.lawful
+    g.W.Wire.ID g.W.Wire.spelled g.W.Wire.printed g.W.Wire.prints_images c.args.token.now.sound
+    c.plain-mode.result (c.plain-mode.ensures ∙ ap plain c.ID.ensures) (seen c.view.result) (g.T.Named.meaning c.in_ok-value.value) c.in_ok-value.ensures.answer c.in_ok-written.written c.in_ok-written.ensures
+    c.in_err-text.ensures.proper c.in_err-text.ensures.shallow)
+
+pub returns-clause-again : goal.returns-clause-again
+returns-clause-again g c y =
+    again g.T.Named.is_meaning g.A.SerializeAs.writes g.A.DeserializeAs.reads g.A.DeserializeAs.spot g.A.DeserializeAs.skips g.A.Adapter.expr g.A.Adapter.norm g.A.Adapter.assumes g.met.A.Adapter.keeps g.met.A.DeserializeAs.lawful
+    g.W.Wire.ID g.W.Wire.spelled g.W.Wire.printed g.W.Wire.prints_images c.args.token.now.sound
+    c.plain-mode.result (c.plain-mode.ensures ∙ ap plain c.ID.ensures) (seen c.view.result) (g.T.Named.meaning c.in_ok-value.value) c.in_ok-value.ensures.answer c.in_ok-written.written c.in_ok-written.ensures
+    c.in_ok-text.ensures.proper c.in_ok-text.ensures.shallow y c.in_ok-text.text.items c.in_ok-text.ensures.text
+
+pub returns-clause-same : goal.returns-clause-same
+returns-clause-same g c y exact =
+    again_same g.T.Named.is_meaning g.A.SerializeAs.writes g.A.DeserializeAs.reads g.A.DeserializeAs.spot g.A.DeserializeAs.skips g.A.Adapter.expr g.A.Adapter.norm g.A.Adapter.assumes g.met.A.Adapter.keeps g.met.A.DeserializeAs.lawful
+    g.W.Wire.ID g.W.Wire.spelled g.W.Wire.printed g.W.Wire.prints_images c.args.token.now.sound
+    c.plain-mode.result (c.plain-mode.ensures ∙ ap plain c.ID.ensures) (seen c.view.result) (g.T.Named.meaning c.in_ok-value.value) c.in_ok-value.ensures.answer c.in_ok-written.written c.in_ok-written.ensures
+    c.in_ok-text.ensures.proper c.in_ok-text.ensures.shallow y exact c.in_ok-text.text.items c.in_ok-text.ensures.text
