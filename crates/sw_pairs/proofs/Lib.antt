@@ -1,0 +1,3 @@
+pub mod Logs
+pub mod Entries
+pub mod Maps

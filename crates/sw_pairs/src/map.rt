@@ -1,0 +1,94 @@
+use crate::pairs;
+use std::alloc::{AllocError, Global};
+use std::marker::PhantomData;
+use sw_check::expr::Expr;
+use sw_core::adapter::{Adapter, DeserializeAs, SerializeAs};
+use sw_elem::refuse::refused_at;
+use sw_tree::fail::{DeError, DeFail, SerError, SerFail};
+use sw_tree::meant::Meant;
+use sw_tree::mode::Mode;
+use sw_tree::node::Node;
+use sw_tree::skipped::Skipped;
+use sw_tree::view::View;
+
+/// A list of pairs as a map, as serde_with's `Map`. Keys go by `K`, values by `V`.
+///
+/// Every pair is kept, in order, those with equal keys too.
+#[derive(PartialEq, Eq, PartialOrd, Ord, Hash)]
+pub struct Map<K, V> {
+    parts: PhantomData<(K, V)>,
+}
+
+/// A map of the pairs in order, each key by `K` in key place, each value by `V` in value place.
+///
+/// The first part that isn't written decides, a key before its value. Without one, a map of which a
+/// key or value has 128 levels is `TooDeep`.
+impl<T: Meant, U: Meant, K: SerializeAs<T>, V: SerializeAs<U>> SerializeAs<Vec<(T, U)>>
+    for Map<K, V> {
+    ghost use Rattle.sw_pairs.specs.Maps.{map_writes};
+
+    ghost writes = { map_writes K.writes V.writes };
+
+    fn serialize_as(alloc: Global, source: &Vec<(T, U)>, mode: Mode) -> Result<Node, SerFail> {
+        let entries = pairs::write_pairs::<T, U, K, V>(alloc, source.as_slice(), mode)?;
+        match Node::map(entries) {
+            Ok(node) => Ok(node),
+            Err(_) => Err(SerFail::Unwritable(SerError::TooDeep)),
+        }
+    }
+}
+
+/// The pairs of a map's entries in order, each key by `K` in key place, then its value by `V` in
+/// value place. A node of another kind is refused as `InvalidType` of that kind; else the first key
+/// or value that is refused decides.
+impl<T: Meant, U: Meant, K: DeserializeAs<T>, V: DeserializeAs<U>> DeserializeAs<Vec<(T, U)>>
+    for Map<K, V> {
+    ghost use Rattle.std.specs.Prelude.{false};
+    ghost use Rattle.sw_pairs.specs.Maps.{map_reads, map_spot, map_skips};
+    ghost use Rattle.sw_pairs.specs.MapLaws.{map_lawful};
+
+    const FREE: bool = false;
+
+    ghost FREE = { false };
+
+    ghost reads = { map_reads K.reads V.reads };
+
+    ghost spot = { map_spot K.reads K.spot V.reads V.spot };
+
+    ghost skips = { map_skips K.reads K.skips V.reads V.skips };
+
+    fn deserialize_as(
+        alloc: Global,
+        view: View<'_>,
+        mode: Mode,
+        log: &mut Skipped,
+    ) -> Result<Vec<(T, U)>, DeFail> {
+        match view.entries() {
+            None => Err(refused_at(view, DeError::InvalidType(view.kind()))),
+            Some(entries) => {
+                pairs::read_pairs::<T, U, K, V>(alloc, entries, view.len(), mode, log)
+            }
+        }
+    }
+
+    ghost lawful = { map_lawful T.is_meaning U.is_meaning K.reads K.spot K.lawful V.reads V.spot V.lawful };
+}
+
+/// It is as faithful as its keys and values: the norm of a map has its keys' and values' norms.
+impl<T: Meant, U: Meant, K: Adapter<T>, V: Adapter<U>> Adapter<Vec<(T, U)>> for Map<K, V> {
+    ghost use Rattle.sw_check.specs.Form.{map};
+    ghost use Rattle.sw_pairs.specs.MapBack.{map_norm};
+    ghost use Rattle.sw_pairs.specs.MapKeeps.{map_keeps};
+
+    ghost expr = { map K.expr V.expr };
+
+    ghost norm = { map_norm K.norm V.norm };
+
+    ghost assumes = { K.assumes × V.assumes };
+
+    fn describe(alloc: Global) -> Result<Expr, AllocError> {
+        Expr::map(alloc, K::describe(alloc)?, V::describe(alloc)?)
+    }
+
+    ghost keeps = { map_keeps T.is_meaning K.writes K.reads K.spot K.skips K.expr K.norm K.assumes K.keeps U.is_meaning V.writes V.reads V.spot V.skips V.expr V.norm V.assumes V.keeps };
+}
