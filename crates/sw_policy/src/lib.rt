@@ -1,0 +1,16 @@
+//! Choice: the first of several forms of a value that is found.
+#![tactic(auto)]
+
+pub mod laws;
+pub mod one_or_many;
+mod options;
+pub mod pick_first;
+pub mod preference;
+mod sealed;
+
+pub use one_or_many::OneOrMany;
+pub use pick_first::PickFirst;
+pub use preference::Preference;
+
+#[cfg(test)]
+mod tests;
