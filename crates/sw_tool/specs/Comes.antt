@@ -1,5 +1,5 @@
 -- When each outcome comes.
-use Rattle.std.specs.Prelude.{ℕ, ◌≡◌, ◌<◌, List, [], ◌∷◌, length, true, Result, Ok, Err, IsOkAnd, Vec, string_bytes}
+use Rattle.std.specs.Prelude.{ℕ, ◌≡◌, ◌<◌, List, [], ◌∷◌, length, true, Option, Some, None, Result, Ok, Err, IsOkAnd, Vec, string_bytes}
 use Rattle.std.specs.declared.alloc.Global.{Global}
 use Rattle.sw_tree.specs.Fail.{kind_of_error}
 use Rattle.sw_tree.specs.Path.{Leads}
@@ -12,7 +12,11 @@ use Rattle.sw_json.specs.Spelled.{spelled}
 use Rattle.sw_core.specs.declared.recode.RecodeError.TheVariants as error
 use Rattle.sw_tool.specs.Faults.{HasRisen}
 use Rattle.sw_tool.specs.Change.{Change, Kept}
-use Rattle.sw_tool.specs.Reading.{limit, IsWhole}
+use Rattle.sw_check.specs.PathText.{path_text as blame_path}
+use Rattle.sw_check.specs.declared.blame.Blame.{Blame}
+use Rattle.sw_check.specs.declared.grade.Grade.{Grade}
+use Rattle.sw_tool.specs.Names.{grade_name}
+use Rattle.sw_tool.specs.Reading.{limit, IsWhole, Gives}
 use Rattle.sw_tool.specs.Writing.{Gains, GainsFront, line}
 use Rattle.sw_tool.specs.Profiles.{Answer}
 use Rattle.sw_tool.specs.declared.outcome.Outcome.{Outcome}
@@ -75,4 +79,41 @@ Comes outcome.ReadFault source sink gave answer = (length gave < limit) × HasRi
 Comes outcome.TooLong source sink gave answer = (length gave ≡ limit) × Kept sink
 Comes outcome.Memory source sink gave answer = (length gave < limit) × Kept sink
 Comes outcome.Usage source sink gave answer = ⊥
+Comes (outcome.Blamed rule path) source sink gave answer = ⊥
 Comes o source sink gave answer = IsWhole source gave × Fails o answer gave × Kept sink
+
+-- the rule of a blame and the text of its path, or want of memory
+abbrev pub Blames : Outcome → Blame → Type 0
+Blames (outcome.Blamed rule path) b = (rule ≡ b.rule) × (string_bytes path ≡ blame_path b.path)
+Blames outcome.Memory b = Unit {0}
+Blames _ b = ⊥
+
+-- the outcome of a blame, if there is one, or want of memory
+pub record IsBlamed (o : Outcome) (found : Option Blame) : Type 0 where
+  pub blame : Blame
+  pub is : found ≡ Some blame
+  pub says : Blames o blame
+
+abbrev pub IsUnsound : Outcome → Option Blame → Type 0
+IsUnsound outcome.Memory found = Unit {0}
+IsUnsound o found = IsBlamed o found
+
+-- a token, where nothing is blamed; else the outcome of the blame, or want of memory
+abbrev pub IsVetted : {T : Type 0} → Result T Outcome → Option Blame → Type 0
+IsVetted (Ok token) found = found ≡ None
+IsVetted (Err o) found = IsUnsound o found
+
+-- Where the nest is blamed, nothing is read and nothing written; else the source gave some bytes, which the nest answers.
+abbrev pub Recoded : Outcome → Change → Change → Option Blame → (List ℕ → Answer) → Type 0
+Recoded o source sink (Some b) answer = Blames o b × Kept source × Kept sink
+Recoded o source sink None answer = Gives source (λ gave. Comes o source sink gave (answer gave))
+
+-- the grade's line was written whole, or a front of it, or nothing for want of memory
+abbrev IsGradePut : Outcome → Change → Grade → Type 0
+IsGradePut outcome.Memory sink g = Kept sink
+IsGradePut o sink g = IsPut o sink (line (grade_name g ∷ []))
+
+-- Where the nest is blamed, nothing is written; else its grade is.
+abbrev pub Graded : Outcome → Change → Option Blame → Grade → Type 0
+Graded o sink (Some b) g = Blames o b × Kept sink
+Graded o sink None g = IsGradePut o sink g

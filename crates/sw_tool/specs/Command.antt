@@ -2,16 +2,24 @@
 use Rattle.std.specs.Prelude.{ℕ, List, [], ◌∷◌, Option, Some, None, option_map, codes, if◌then◌else◌}
 use Rattle.std.specs.Str.{bytes_eq}
 use Rattle.sw_tool.specs.declared.command.Profile.{Profile}
-use Rattle.sw_tool.specs.declared.command.Profile.TheVariants.{Ids, Any}
+use Rattle.sw_tool.specs.declared.command.Profile.TheVariants.{Ids, Any, Table, Flex, Names, Lists, Keys, Wrap}
 use Rattle.sw_tool.specs.declared.command.Command.{Command}
-use Rattle.sw_tool.specs.declared.command.Command.TheVariants.{Recode}
+use Rattle.sw_tool.specs.declared.command.Command.TheVariants.{Recode, Check}
+
+-- the first of these names that the word is
+abbrev first_named : List ℕ → List (List ℕ × Profile) → Option Profile
+first_named word [] = None
+first_named word (n ∷ ns) = if bytes_eq word n.0 then Some n.1 else first_named word ns
 
 abbrev pub profile_named : List ℕ → Option Profile
-profile_named word = if bytes_eq word (codes "ids") then Some Ids else (if bytes_eq word (codes "any") then Some Any else None)
+profile_named word =
+    first_named word
+    ((codes "ids", Ids) ∷ (codes "any", Any) ∷ (codes "table", Table) ∷ (codes "flex", Flex) ∷ (codes "names", Names) ∷ (codes "lists", Lists) ∷ (codes "keys", Keys) ∷ (codes "wrap", Wrap) ∷ [])
 
 -- the command that a verb and its argument are
 abbrev pub command_of_two : List ℕ → List ℕ → Option Command
-command_of_two verb argument = if bytes_eq verb (codes "recode") then option_map Recode (profile_named argument) else None
+command_of_two verb argument =
+    if bytes_eq verb (codes "recode") then option_map Recode (profile_named argument) else (if bytes_eq verb (codes "check") then option_map Check (profile_named argument) else None)
 
 abbrev pub command_in : List (List ℕ) → Option Command
 command_in [] = None

@@ -1,18 +1,32 @@
 -- The nests of the profiles, as equations, and what they answer of a JSON text.
-use Rattle.std.specs.Prelude.{ℕ, ◌^◌, List, Result}
+use Rattle.std.specs.Prelude.{ℕ, ◌^◌, true, false, List, [], ◌∷◌, Option, Result}
 use Rattle.sw_tree.specs.Meaning.{Meaning}
 use Rattle.sw_tree.specs.declared.mode.WireKind.TheVariants.{Json}
-use Rattle.sw_elem.specs.Decimal.{decimal_shows, unsigned_parses}
+use Rattle.sw_elem.specs.Decimal.{decimal_shows, unsigned_parses, signed_parses}
+use Rattle.sw_tree.specs.Mode.{plain}
+use Rattle.sw_check.specs.Form.{Form, leaf, vec, map, pick_first, one_or_many, form, no_forms}
+use Rattle.sw_check.specs.Blame.{blame}
+use Rattle.sw_check.specs.Grade.{grade}
+use Rattle.sw_check.specs.declared.blame.Blame.{Blame}
+use Rattle.sw_check.specs.declared.grade.Grade.{Grade}
+use Rattle.sw_elem.specs.Facts.{number_facts, truth_facts, text_facts, any_facts}
+use Rattle.sw_elem.specs.Numbers.{number_writes, number_reads, is_below}
+use Rattle.sw_elem.specs.Texts.{text_writes, text_reads}
+use Rattle.sw_elem.specs.Truths.{truth_writes, truth_reads}
 use Rattle.sw_elem.specs.Foreign.{any_reads, any_spot, any_writes}
-use Rattle.sw_elem.specs.Equations.{Writes, Reads, Spots, own_spot}
+use Rattle.sw_elem.specs.Equations.{Writes, Reads, Spots, Skips, own_spot, no_skips}
 use Rattle.sw_core.specs.Display.{display_writes, display_reads}
-use Rattle.sw_core.specs.Lists.{list_writes, list_reads, list_spot}
+use Rattle.sw_core.specs.Lists.{list_writes, list_reads, list_spot, list_skips}
 use Rattle.sw_core.specs.Recoding.{answer}
 use Rattle.sw_core.specs.declared.recode.RecodeError.{RecodeError}
+use Rattle.sw_pairs.specs.Maps.{map_writes, map_reads, map_spot, map_skips}
+use Rattle.sw_policy.specs.Options.{reader}
+use Rattle.sw_policy.specs.PickFirst.{pick_reads}
+use Rattle.sw_policy.specs.OneOrMany.{one_or_many_writes, one_or_many_reads}
 use Rattle.sw_json.specs.Spelled.{spelled}
 use Rattle.sw_json.specs.Text.{json_text}
 use Rattle.sw_tool.specs.declared.command.Profile.{Profile}
-use Rattle.sw_tool.specs.declared.command.Profile.TheVariants.{Ids, Any}
+use Rattle.sw_tool.specs.declared.command.Profile.TheVariants.{Ids, Any, Table, Flex, Names, Lists, Keys, Wrap}
 
 -- a value and its new text, or the first error on the way
 abbrev pub Answer : Type 0
@@ -22,16 +36,72 @@ Answer = Result (Meaning × List ℕ) RecodeError
 abbrev pub json_answer : Reads → Spots → Writes → List ℕ → Answer
 json_answer reads spot writes bytes = answer reads spot writes Json spelled json_text bytes
 
--- a list of texts that spell numbers below 2^32
-abbrev pub ids_reads : Reads
-ids_reads = list_reads (display_reads (unsigned_parses (2 ^ 32)))
+-- what a nest reads, where it refuses, what it writes, and its expression
+pub record Nest : Type 0 where
+  pub reads : Reads
+  pub spot : Spots
+  pub writes : Writes
+  pub expr : Form
 
-abbrev pub ids_spot : Spots
-ids_spot = list_spot (display_reads (unsigned_parses (2 ^ 32))) own_spot
+abbrev nest : Reads → Spots → Writes → Form → Nest
+nest reads spot writes expr = record { reads = reads; spot = spot; writes = writes; expr = expr }
 
-abbrev pub ids_writes : Writes
-ids_writes = list_writes (display_writes decimal_shows)
+-- a text that spells a number below 2^32
+abbrev id_reads : Reads
+id_reads = display_reads (unsigned_parses (2 ^ 32))
 
-abbrev pub answer_of : Profile → List ℕ → Answer
-answer_of Ids bytes = json_answer ids_reads ids_spot ids_writes bytes
-answer_of Any bytes = json_answer any_reads any_spot any_writes bytes
+-- a text that spells a number from -2^31 to 2^31 - 1
+abbrev key_reads : Reads
+key_reads = display_reads (signed_parses (2 ^ 31))
+
+-- a number below that limit
+abbrev below : ℕ → Reads
+below limit = number_reads (is_below limit)
+
+-- a number below 2^32, or a text that spells it
+abbrev flex_reads : Reads
+flex_reads = pick_reads (reader (below (2 ^ 32)) no_skips ∷ reader id_reads no_skips ∷ [])
+
+-- a number below 2^32 that was set aside
+abbrev aside_reads : Reads
+aside_reads = pick_reads (reader (below (2 ^ 32)) no_skips ∷ reader (below (2 ^ 32)) no_skips ∷ [])
+
+-- a map with a text for each key
+abbrev texts_reads : Reads
+texts_reads = map_reads text_reads any_reads
+
+abbrev texts_skips : Skips
+texts_skips = map_skips text_reads no_skips any_reads no_skips
+
+abbrev number : Form
+number = leaf number_facts
+
+abbrev text : Form
+text = leaf text_facts
+
+abbrev pub nest_of : Profile → Nest
+nest_of Ids = nest (list_reads id_reads) (list_spot id_reads own_spot) (list_writes (display_writes decimal_shows)) (vec text)
+nest_of Any = nest any_reads any_spot any_writes (leaf any_facts)
+nest_of Table =
+    nest (map_reads key_reads (list_reads (below (2 ^ 8)))) (map_spot key_reads own_spot (list_reads (below (2 ^ 8))) (list_spot (below (2 ^ 8)) own_spot))
+    (map_writes (display_writes decimal_shows) (list_writes number_writes)) (map text (vec number))
+nest_of Flex = nest (list_reads flex_reads) (list_spot flex_reads own_spot) (list_writes number_writes) (vec (pick_first number (form text no_forms)))
+nest_of Names = nest (one_or_many_reads text_reads no_skips) own_spot (one_or_many_writes true text_writes) (one_or_many text)
+nest_of Lists =
+    nest (one_or_many_reads (list_reads (below (2 ^ 8))) (list_skips (below (2 ^ 8)) no_skips)) own_spot (one_or_many_writes true (list_writes number_writes))
+    (one_or_many (vec number))
+nest_of Keys =
+    nest (map_reads aside_reads truth_reads) (map_spot aside_reads own_spot truth_reads own_spot) (map_writes number_writes truth_writes)
+    (map (pick_first number (form number no_forms)) (leaf truth_facts))
+nest_of Wrap =
+    nest (one_or_many_reads texts_reads texts_skips) own_spot (one_or_many_writes false (map_writes text_writes any_writes)) (one_or_many (map text (leaf any_facts)))
+
+-- what is blamed in the nest, where a JSON text is recoded
+unfoldable pub blame_of : Profile → Option Blame
+blame_of p = blame (nest_of p).expr (plain Json)
+
+unfoldable pub grade_of : Profile → Grade
+grade_of p = grade (nest_of p).expr (plain Json)
+
+unfoldable pub answer_of : Profile → List ℕ → Answer
+answer_of p bytes = json_answer (nest_of p).reads (nest_of p).spot (nest_of p).writes bytes

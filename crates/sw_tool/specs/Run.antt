@@ -2,13 +2,12 @@
 use Rattle.std.specs.Prelude.{ℕ, ◌≡◌, List, Option, Some, None}
 use Rattle.sw_tool.specs.Change.{Change, Kept}
 use Rattle.sw_tool.specs.Command.{command_in}
-use Rattle.sw_tool.specs.Comes.{Comes}
+use Rattle.sw_tool.specs.Comes.{Recoded, Graded}
 use Rattle.sw_tool.specs.Outcome.{status_of, line_of}
-use Rattle.sw_tool.specs.Profiles.{answer_of}
-use Rattle.sw_tool.specs.Reading.{Gives}
+use Rattle.sw_tool.specs.Profiles.{blame_of, grade_of, answer_of}
 use Rattle.sw_tool.specs.Writing.{Notes}
 use Rattle.sw_tool.specs.declared.command.Command.{Command}
-use Rattle.sw_tool.specs.declared.command.Command.TheVariants.{Recode}
+use Rattle.sw_tool.specs.declared.command.Command.TheVariants.{Recode, Check}
 use Rattle.sw_tool.specs.declared.command.Profile.{Profile}
 use Rattle.sw_tool.specs.declared.outcome.Outcome.{Outcome}
 use Rattle.sw_tool.specs.declared.outcome.Outcome.TheVariants as outcome
@@ -33,15 +32,23 @@ pub record IsUsage (r : Run) : Type 0 where
   pub source : Kept r.source
   pub sink : Kept r.sink
 
--- the bytes that the source gave are recoded through the profile's nest
-pub record IsRecoding (p : Profile) (r : Run) (gave : List ℕ) : Type 0 where
+-- what the source gives is recoded through the profile's nest
+pub record IsRecoding (p : Profile) (r : Run) : Type 0 where
   pub outcome : Outcome
   pub ends : Ends outcome r
-  pub comes : Comes outcome r.source r.sink gave (answer_of p gave)
+  pub recoded : Recoded outcome r.source r.sink (blame_of p) (answer_of p)
+
+-- nothing is read, and the grade of the profile's nest is written
+pub record IsGrading (p : Profile) (r : Run) : Type 0 where
+  pub outcome : Outcome
+  pub ends : Ends outcome r
+  pub source : Kept r.source
+  pub graded : Graded outcome r.sink (blame_of p) (grade_of p)
 
 abbrev pub IsRunOf : Option Command → Run → Type 0
 IsRunOf None r = IsUsage r
-IsRunOf (Some (Recode p)) r = Gives r.source (IsRecoding p r)
+IsRunOf (Some (Recode p)) r = IsRecoding p r
+IsRunOf (Some (Check p)) r = IsGrading p r
 
 -- the command that the words are decides
 abbrev pub IsRun : Run → Type 0

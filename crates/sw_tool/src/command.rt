@@ -8,6 +8,19 @@ pub enum Profile {
     Ids,
     /// `Same` of `Any`: whatever a JSON text may say.
     Any,
+    /// `Map<DisplayFromStr, Vec<Same>>` of `Vec<(i32, Vec<u8>)>`: a table of lists of bytes.
+    Table,
+    /// `Vec<PickFirst<(Same, DisplayFromStr)>>` of `Vec<u32>`: numbers, or texts that spell them.
+    Flex,
+    /// `OneOrMany<Same, PreferOne>` of `Vec<String>`: a text, or a list of texts.
+    Names,
+    /// `OneOrMany<Vec<Same>, PreferOne>` of `Vec<Vec<u8>>`: a list of bytes, or a list of such lists.
+    Lists,
+    /// `Map<PickFirst<(Same, Same)>, Same>` of `Vec<(u32, bool)>`: a map from numbers that were set
+    /// aside, which as keys of JSON are none.
+    Keys,
+    /// `OneOrMany<Map<Same, Same>, PreferMany>` of `Vec<Vec<(String, Any)>>`: a map, or a list of maps.
+    Wrap,
 }
 
 /// What the program is to do.
@@ -15,6 +28,8 @@ pub enum Profile {
 pub enum Command {
     /// Read the input through the profile's nest, and write it anew.
     Recode(Profile),
+    /// Say how faithful the profile's nest is.
+    Check(Profile),
 }
 
 /// The profile of that name.
@@ -24,6 +39,12 @@ fn profile_of(word: &str) -> Option<Profile>
     match word {
         "ids" => Some(Profile::Ids),
         "any" => Some(Profile::Any),
+        "table" => Some(Profile::Table),
+        "flex" => Some(Profile::Flex),
+        "names" => Some(Profile::Names),
+        "lists" => Some(Profile::Lists),
+        "keys" => Some(Profile::Keys),
+        "wrap" => Some(Profile::Wrap),
         _ => None,
     }
 }
@@ -34,6 +55,7 @@ fn command_of_two(verb: &str, argument: &str) -> Option<Command>
 {
     match verb {
         "recode" => profile_of(argument).map(Command::Recode),
+        "check" => profile_of(argument).map(Command::Check),
         _ => None,
     }
 }

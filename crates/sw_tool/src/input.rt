@@ -31,7 +31,9 @@ pub fn read_all<S: Source>(alloc: Global, source: &mut S) -> Result<Vec<u8>, Rea
     let Ok(mut chunk) = zeros(alloc, CHUNK) else {
         return Err(ReadFail::Memory);
     };
-    let mut bytes = Vec::new(alloc);
+    let Ok(mut bytes) = Vec::with_capacity(alloc, LIMIT) else {
+        return Err(ReadFail::Memory);
+    };
     loop {
         let room = LIMIT - bytes.len();
         let part = &mut chunk[..CHUNK.min(room)];

@@ -9,6 +9,7 @@ mod names;
 mod nest;
 mod outcome;
 mod output;
+mod profile;
 mod report;
 mod run;
 mod sink;

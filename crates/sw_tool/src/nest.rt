@@ -1,16 +1,20 @@
-ghost use Rattle.std.specs.Prelude.{IfOk, string_bytes};
-ghost use Rattle.sw_tool.specs.Comes.{IsConverted, IsPathTo, IsTraced, HasNode};
-ghost use Rattle.sw_tool.specs.Profiles.{answer_of, json_answer};
+//! One nest over JSON: its token, what it makes of a text, and the path of a refusal.
 
-use crate::command::Profile;
+ghost use Rattle.std.specs.Prelude.{IfOk, string_bytes};
+ghost use Rattle.sw_tree.specs.Mode.{plain};
+ghost use Rattle.sw_tree.specs.declared.mode.WireKind.TheVariants.{Json};
+ghost use Rattle.sw_check.specs.Blame.{blame};
+ghost use Rattle.sw_tool.specs.Comes.{IsVetted, Blames, IsConverted, IsPathTo, IsTraced, HasNode};
+ghost use Rattle.sw_tool.specs.Profiles.{json_answer};
+
 use crate::outcome::Outcome;
 use std::alloc::{AllocError, Global};
-use sw_core::adapter::{DeserializeAs, SerializeAs};
+use sw_check::blame::{Blame, CheckFail};
+use sw_core::adapter::Adapter;
 use sw_core::as_::As;
-use sw_core::display::DisplayFromStr;
+use sw_core::faithful::faithful;
 use sw_core::recode::RecodeError;
-use sw_core::same::Same;
-use sw_elem::any::Any;
+use sw_core::token::Faithful;
 use sw_json::JsonWire;
 use sw_tree::fail::{Refusal, WireError};
 use sw_tree::meant::Meant;
@@ -18,25 +22,39 @@ use sw_tree::path::path_of;
 use sw_tree::skipped::Skipped;
 use sw_tree::wire::Wire;
 
-/// The JSON text of the value that the bytes mean to the profile's nest, or why there is none.
-pub fn convert(alloc: Global, profile: Profile, bytes: &[u8]) -> Result<Vec<u8>, Outcome>
-    ensures { IsConverted result (answer_of profile bytes.now) bytes.now }
+/// The token of the nest `A` of `T`, or what is blamed in it.
+pub(crate) fn vet<T: Meant, A: Adapter<T>>(
+    alloc: Global,
+) -> Result<Faithful<A, T, JsonWire>, Outcome>
+    ensures { IsVetted result (blame A.expr (plain Json)) }
 {
-    match profile {
-        Profile::Ids => convert_by::<Vec<u32>, Vec<DisplayFromStr>>(alloc, bytes),
-        Profile::Any => convert_by::<Any, Same>(alloc, bytes),
+    match faithful::<A, T, JsonWire>(alloc) {
+        Ok(token) => Ok(token),
+        Err(CheckFail::Blame(blame)) => Err(blamed(alloc, blame)),
+        Err(CheckFail::Memory) => Err(Outcome::Memory),
+    }
+}
+
+/// The outcome of a blame: its rule, and the text of its path.
+fn blamed(alloc: Global, blame: Blame) -> Outcome
+    ensures { Blames result blame }
+{
+    match blame.path.print(alloc) {
+        Ok(path) => Outcome::Blamed(blame.rule, path),
+        Err(_) => Outcome::Memory,
     }
 }
 
 /// The JSON text of the value of type `T` that the bytes mean to the nest `A`, or why there is none.
-fn convert_by<T: Meant, A: SerializeAs<T> + DeserializeAs<T>>(
+pub(crate) fn convert<T: Meant, A: Adapter<T>>(
     alloc: Global,
+    token: &Faithful<A, T, JsonWire>,
     bytes: &[u8],
 ) -> Result<Vec<u8>, Outcome>
     ensures { IsConverted result (json_answer A.reads A.spot A.writes bytes.now) bytes.now }
 {
     let mut log = Skipped::new(alloc);
-    match As::<A>::recode::<T, JsonWire>(alloc, &mut log, bytes) {
+    match As::<A>::recode::<T, JsonWire>(alloc, token, &mut log, bytes) {
         Ok((_, text)) => Ok(text),
         Err(RecodeError::Syntax) => Err(Outcome::Syntax),
         Err(RecodeError::NotWhole { at }) => Err(Outcome::NotWhole(at)),

@@ -1,4 +1,5 @@
 use crate::status::Status;
+use sw_check::rule::Rule;
 use sw_tree::fail::{DeKind, SerError};
 
 /// What became of a command, with all that its line on the notes says.
@@ -18,6 +19,8 @@ pub enum Outcome {
     Refused(DeKind, String),
     /// The nest doesn't write the value.
     Unwritable(SerError),
+    /// The nest isn't sound: that rule fails at the subexpression of that path.
+    Blamed(Rule, String),
     /// The source failed.
     ReadFault,
     /// The sink failed.
@@ -44,6 +47,7 @@ impl Outcome {
             Outcome::TooDeep(_) => Status::TooDeep,
             Outcome::Refused(_, _) => Status::Refused,
             Outcome::Unwritable(_) => Status::Unwritable,
+            Outcome::Blamed(_, _) => Status::Blamed,
             Outcome::ReadFault => Status::ReadFault,
             Outcome::WriteFault => Status::WriteFault,
             Outcome::Memory => Status::Memory,

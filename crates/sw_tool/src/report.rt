@@ -2,7 +2,7 @@ ghost use Rattle.std.specs.Prelude.{◌≡◌, [], ◌∷◌, map, codes, decima
 ghost use Rattle.sw_tool.specs.Outcome.{status_of, line_of};
 ghost use Rattle.sw_tool.specs.Writing.{Notes, line};
 
-use crate::names::{kind_name, reason_name};
+use crate::names::{kind_name, reason_name, rule_name};
 use crate::outcome::Outcome;
 use crate::output::write_line;
 use crate::sink::Sink;
@@ -33,8 +33,9 @@ fn note_outcome<N: Sink>(notes: &mut N, outcome: &Outcome)
         Outcome::Syntax => note_word(notes, "syntax"),
         Outcome::NotWhole(at) => note_offset(notes, "not whole at ", *at),
         Outcome::TooDeep(at) => note_offset(notes, "too deep at ", *at),
-        Outcome::Refused(kind, path) => note_refusal(notes, kind_name(*kind), path.as_str()),
+        Outcome::Refused(kind, path) => note_at(notes, "refused ", kind_name(*kind), path.as_str()),
         Outcome::Unwritable(reason) => note_pair(notes, "unwritable ", reason_name(*reason)),
+        Outcome::Blamed(rule, path) => note_at(notes, "blamed ", rule_name(*rule), path.as_str()),
         Outcome::ReadFault => note_word(notes, "read fault"),
         Outcome::WriteFault => note_word(notes, "write fault"),
         Outcome::Memory => note_word(notes, "memory"),
@@ -70,18 +71,17 @@ fn note_pair<'a, N: Sink>(notes: &mut N, first: &'a str, second: &'a str)
     note(notes, &[first.as_bytes(), second.as_bytes()]);
 }
 
-/// Writes the line of a refusal, by its name and its path.
-fn note_refusal<'a, N: Sink>(notes: &mut N, name: &'a str, path: &'a str)
+/// Writes the line of what is refused or blamed, by its name and its path.
+fn note_at<'a, N: Sink>(notes: &mut N, verb: &'a str, name: &'a str, path: &'a str)
     ensures { Notes
         (record { old = N.taken notes.old; new = N.taken notes.new; before = N.faults notes.old; after = N.faults notes.new })
-        (line (codes "refused " ∷ name.now ∷ codes " at " ∷ path.now ∷ [])) }
+        (line (verb.now ∷ name.now ∷ codes " at " ∷ path.now ∷ [])) }
 {
-    let refused: &'a str = "refused ";
     let at: &'a str = " at ";
     note(
         notes,
         &[
-            refused.as_bytes(),
+            verb.as_bytes(),
             name.as_bytes(),
             at.as_bytes(),
             path.as_bytes(),

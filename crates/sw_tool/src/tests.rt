@@ -5,6 +5,21 @@ use crate::source::Source;
 use crate::status::Status;
 use std::alloc::{AllocError, Global};
 use std::process::Abort;
+use sw_check::blame::CheckFail;
+use sw_check::rule::Rule;
+use sw_core::adapter::{Adapter, DeserializeAs, SerializeAs};
+use sw_core::as_::As;
+use sw_core::display::DisplayFromStr;
+use sw_core::faithful::faithful;
+use sw_core::formats::{PreferMany, PreferOne};
+use sw_core::same::Same;
+use sw_json::JsonWire;
+use sw_pairs::Map;
+use sw_policy::{OneOrMany, PickFirst};
+use sw_tree::meant::Meant;
+use sw_tree::mode::{Mode, WireKind};
+use sw_tree::skipped::Skipped;
+use sw_tree::wire::Wire;
 
 /// Words as the machine gives them.
 fn words(alloc: Global, words: &[&str]) -> Result<Vec<String>, AllocError> {
@@ -30,9 +45,10 @@ fn sink(alloc: Global, room: usize, fails: &[u64]) -> Result<MemSink, AllocError
     MemSink::new(alloc, room, Vec::from_slice(alloc, fails)?)
 }
 
-/// Runs `recode` with the profile, and compares the status, the output and the notes.
+/// Runs the verb with the profile, and compares the status, the output and the notes.
 fn check(
     rt: &(impl Abort + AllocGlobal),
+    verb: &str,
     profile: &str,
     mut from: MemSource,
     mut to: MemSink,
@@ -41,7 +57,7 @@ fn check(
     line: &str,
 ) -> Result<(), AllocError> {
     let alloc = rt.alloc();
-    let recode = words(alloc, &["recode", profile])?;
+    let recode = words(alloc, &[verb, profile])?;
     let mut notes = sink(alloc, 64, &[])?;
     let ended = run(alloc, recode.as_slice(), &mut from, &mut to, &mut notes);
     assert!(rt; ended == status);
@@ -70,7 +86,7 @@ fn each_input_has_its_outcome(rt: HostRuntime) -> Result<(), AllocError> {
     ] {
         let from = source(alloc, input, &[], 1)?;
         let to = sink(alloc, 64, &[])?;
-        check(&rt, "ids", from, to, status, output, line)?;
+        check(&rt, "recode", "ids", from, to, status, output, line)?;
     }
     Ok(())
 }
@@ -109,7 +125,112 @@ fn any_keeps_each_node(rt: HostRuntime) -> Result<(), AllocError> {
         if status == Status::Ok {
             output.push_str("\n")?;
         }
-        check(&rt, "any", from, to, status, output.as_str(), line)?;
+        check(
+            &rt,
+            "recode",
+            "any",
+            from,
+            to,
+            status,
+            output.as_str(),
+            line,
+        )?;
+    }
+    Ok(())
+}
+
+#[test]
+fn each_nest_has_its_outcomes(rt: HostRuntime) -> Result<(), AllocError> {
+    let alloc = rt.alloc();
+    let table = "{\"1\":[0,1],\"-100\":[255],\"1\":[]}";
+    for (profile, input, status, output, line) in [
+        ("table", table, Status::Ok, table, ""),
+        ("flex", "[\"7\",8,\"009\"]", Status::Ok, "[7,8,9]", ""),
+        (
+            "flex",
+            "[\"x\"]",
+            Status::Refused,
+            "",
+            "refused NoVariant at /0\n",
+        ),
+        ("flex", "[1.0]", Status::NotWhole, "", "not whole at 1\n"),
+        ("flex", "[-0]", Status::NotWhole, "", "not whole at 1\n"),
+        ("flex", "[1e2]", Status::NotWhole, "", "not whole at 1\n"),
+        ("flex", "[1.0", Status::Syntax, "", "syntax\n"),
+        ("names", "\"x\"", Status::Ok, "\"x\"", ""),
+        ("names", "[\"x\"]", Status::Ok, "\"x\"", ""),
+        ("names", "[]", Status::Ok, "[]", ""),
+        (
+            "names",
+            "\"\\u0041\\/\\u001f\"",
+            Status::Ok,
+            "\"A/\\u001f\"",
+            "",
+        ),
+        ("names", "\"\\ud800\"", Status::Syntax, "", "syntax\n"),
+        ("names", "\"ab", Status::Syntax, "", "syntax\n"),
+    ] {
+        let from = source(alloc, input.as_bytes(), &[], 7)?;
+        let to = sink(alloc, 128, &[])?;
+        let mut output = String::from_str(alloc, output)?;
+        if status == Status::Ok {
+            output.push_str("\n")?;
+        }
+        check(
+            &rt,
+            "recode",
+            profile,
+            from,
+            to,
+            status,
+            output.as_str(),
+            line,
+        )?;
+    }
+    Ok(())
+}
+
+/// So many maps in one another, each but the innermost with the one name `a`.
+fn nested_maps(alloc: Global, levels: usize) -> Result<Vec<u8>, AllocError> {
+    let mut text = Vec::new(alloc);
+    for _ in 1..levels {
+        text.extend_from_slice(b"{\"a\":")?;
+    }
+    text.extend_from_slice(b"{}")?;
+    for _ in 1..levels {
+        text.push(b'}')?;
+    }
+    Ok(text)
+}
+
+#[test]
+fn what_is_wrapped_has_one_level_more(rt: HostRuntime) -> Result<(), AllocError> {
+    let alloc = rt.alloc();
+    for (levels, status, line) in [
+        (127, Status::Ok, ""),
+        (128, Status::Unwritable, "unwritable TooDeep\n"),
+    ] {
+        let text = nested_maps(alloc, levels)?;
+        let mut output = String::new(alloc);
+        if let Ok(inner) = std::str::from_utf8(text.as_slice())
+            && status == Status::Ok
+        {
+            output.push_str("[")?;
+            output.push_str(inner)?;
+            output.push_str("]\n")?;
+        }
+        let from = source(alloc, text.as_slice(), &[], 100)?;
+        let to = sink(alloc, 2048, &[])?;
+        check(
+            &rt,
+            "recode",
+            "wrap",
+            from,
+            to,
+            status,
+            output.as_str(),
+            line,
+        )?;
     }
     Ok(())
 }
@@ -121,7 +242,16 @@ fn each_front_of_a_text_is_a_syntax_error(rt: HostRuntime) -> Result<(), AllocEr
     for length in 0..text.len() {
         let from = source(alloc, &text[..length], &[], 64)?;
         let to = sink(alloc, 64, &[])?;
-        check(&rt, "any", from, to, Status::Syntax, "", "syntax\n")?;
+        check(
+            &rt,
+            "recode",
+            "any",
+            from,
+            to,
+            Status::Syntax,
+            "",
+            "syntax\n",
+        )?;
     }
     Ok(())
 }
@@ -164,8 +294,92 @@ fn each_fault_has_its_outcome(rt: HostRuntime) -> Result<(), AllocError> {
     ] {
         let from = source(alloc, b"[\"12\"]", &[source_fails], 2)?;
         let to = sink(alloc, room, &[sink_fails])?;
-        check(&rt, "ids", from, to, status, output, line)?;
+        check(&rt, "recode", "ids", from, to, status, output, line)?;
     }
+    Ok(())
+}
+
+#[test]
+fn the_check_comes_before_the_input(rt: HostRuntime) -> Result<(), AllocError> {
+    let alloc = rt.alloc();
+    for (verb, profile, status, output, line) in [
+        ("check", "ids", Status::Ok, "exact\n", ""),
+        ("check", "any", Status::Ok, "exact\n", ""),
+        ("check", "table", Status::Ok, "exact\n", ""),
+        ("check", "flex", Status::Ok, "exact\n", ""),
+        ("check", "names", Status::Ok, "exact\n", ""),
+        ("check", "wrap", Status::Ok, "exact\n", ""),
+        ("check", "lists", Status::Blamed, "", "blamed S3 at /\n"),
+        ("check", "keys", Status::Blamed, "", "blamed S1 at /0/0\n"),
+        ("recode", "lists", Status::Blamed, "", "blamed S3 at /\n"),
+        ("recode", "keys", Status::Blamed, "", "blamed S1 at /0/0\n"),
+    ] {
+        let from = source(alloc, b"{", &[1], 1)?;
+        let to = sink(alloc, 64, &[])?;
+        check(&rt, verb, profile, from, to, status, output, line)?;
+    }
+    Ok(())
+}
+
+/// Whether that rule is blamed at the subexpression of those steps.
+fn is_blamed<A: Adapter<T>, T: Meant>(alloc: Global, rule: Rule, steps: &[u16]) -> bool {
+    match faithful::<A, T, JsonWire>(alloc) {
+        Err(CheckFail::Blame(blame)) => blame.rule == rule && blame.path.steps() == steps,
+        _ => false,
+    }
+}
+
+/// The JSON text that the value is written as, without the check; none where its tree has no image.
+fn written<A: SerializeAs<T>, T: Meant>(alloc: Global, value: &T) -> Option<Vec<u8>> {
+    let node = As::<A>::serialize::<T>(alloc, value, Mode::plain(WireKind::Json)).ok()?;
+    JsonWire::print(alloc, &node).ok()
+}
+
+/// The value that a JSON text is read as, without the check.
+fn read<A: DeserializeAs<T>, T: Meant>(alloc: Global, text: &[u8]) -> Option<T> {
+    let doc = JsonWire::read_tree(alloc, text).ok()?;
+    let mut log = Skipped::new(alloc);
+    As::<A>::deserialize::<T>(alloc, doc.view(), Mode::plain(WireKind::Json), &mut log).ok()
+}
+
+type Keys = Map<PickFirst<(Same, Same)>, Same>;
+
+type Lists = OneOrMany<Vec<Same>, PreferOne>;
+
+type Listed = Map<OneOrMany<DisplayFromStr, PreferMany>, Same>;
+
+#[test]
+fn no_rule_is_idle(rt: HostRuntime) -> Result<(), AllocError> {
+    let alloc = rt.alloc();
+    assert!(rt; is_blamed::<Keys, Vec<(u32, bool)>>(alloc, Rule::S1, &[0, 0]));
+    let mut pairs: Vec<(u32, bool)> = Vec::new(alloc);
+    pairs.push((5, true))?;
+    let text = written::<Keys, Vec<(u32, bool)>>(alloc, &pairs);
+    assert!(rt; matches!(&text, Some(text) if text.as_slice() == b"{\"5\":true}".as_slice()));
+    assert!(rt; matches!(read::<Keys, Vec<(u32, bool)>>(alloc, b"{\"5\":true}"), None));
+
+    assert!(rt; is_blamed::<Listed, Vec<(Vec<u32>, u32)>>(alloc, Rule::S2, &[0],));
+    let read_one = read::<Listed, Vec<(Vec<u32>, u32)>>(alloc, b"{\"1\":2}");
+    assert!(rt;
+        matches!(&read_one, Some(one) if matches!(written::<Listed, Vec<(Vec<u32>, u32)>>(alloc, one), None))
+    );
+    let mut key: Vec<u8> = Vec::new(alloc);
+    key.push(1)?;
+    let mut lists: Vec<(Vec<u8>, u8)> = Vec::new(alloc);
+    lists.push((key, 2))?;
+    assert!(rt;
+        matches!(
+            written::<Map<Vec<Same>, Same>, Vec<(Vec<u8>, u8)>>(alloc, &lists),
+            None
+        )
+    );
+
+    assert!(rt; is_blamed::<Lists, Vec<Vec<u8>>>(alloc, Rule::S3, &[]));
+    let none: Vec<Vec<u8>> = Vec::new(alloc);
+    let text = written::<Lists, Vec<Vec<u8>>>(alloc, &none);
+    assert!(rt; matches!(&text, Some(text) if text.as_slice() == b"[]".as_slice()));
+    let one = read::<Lists, Vec<Vec<u8>>>(alloc, b"[]");
+    assert!(rt; matches!(&one, Some(one) if one.len() == 1 && one[0].is_empty()));
     Ok(())
 }
 
