@@ -40,6 +40,31 @@ def number_texts(size):
     return filled(size, lambda: '"%d"' % choose.randrange(10 ** choose.randrange(1, 10)))
 
 
+def numbers_and_texts(size):
+    """A list of numbers and number texts: [12,"4567", ..]."""
+    choose = random.Random(3)
+    return filled(size, lambda: choose.choice(("%d", '"%d"')) % choose.randrange(10 ** choose.randrange(1, 10)))
+
+
+def byte_table(size):
+    """A map from number texts to lists of up to seven bytes: {"12":[0,255], ..}."""
+    choose = random.Random(5)
+
+    def entry():
+        row = ",".join(str(choose.randrange(256)) for _ in range(choose.randrange(8)))
+        return '"%d":[%s]' % (choose.randrange(-(10**6), 10**6), row)
+
+    return b"{" + filled(size, entry)[1:-1] + b"}"
+
+
+def as_it_is(text):
+    return text
+
+
+def without_quotes(text):
+    return text.replace(b'"', b"")
+
+
 def mixed_nodes(size):
     """A list of records of numbers, texts with and without escapes, literals, lists and maps, as compact text."""
     choose = random.Random(11)
@@ -107,15 +132,16 @@ def yardstick(folder):
     return built
 
 
-def measure(profile, make_text, rounds, peers, folder):
+def measure(profile, make_text, written, rounds, peers, folder):
+    """Times one profile; `written` gives what is written of a text."""
     times = {}
     for size in (LIMIT // 4, LIMIT // 2, LIMIT):
         text = make_text(size)
         took, peak, output = best([PROGRAM, "recode", profile], text, rounds, folder)
-        assert output == text + b"\n", "the output isn't the compact input"
+        assert output == written(text) + b"\n", "the output isn't what is to be written"
         times[size] = took
         print(
-            "recode %-3s %7d bytes: %.4f s, %6.1f MB/s, peak %5.1f MB = %4.1f times the input"
+            "recode %-5s %7d bytes: %.4f s, %6.1f MB/s, peak %5.1f MB = %4.1f times the input"
             % (profile, len(text), took, len(text) / took / 1e6, peak / 1e6, peak / len(text))
         )
     print("  time of 4 MB over time of 1 MB: %.2f" % (times[LIMIT] / times[LIMIT // 4]))
@@ -123,8 +149,8 @@ def measure(profile, make_text, rounds, peers, folder):
         took, peak, output = best(command, text, rounds, folder)
         assert output.rstrip(b"\n") == text, name
         print(
-            "  %-10s %.4f s, peak %.1f MB; recode takes %.3f of its time"
-            % (name, took, peak / 1e6, times[LIMIT] / took)
+            "  %-10s %.4f s, peak %.1f MB; it takes %.2f times as long as recode, recode %.3f times as long as it"
+            % (name, took, peak / 1e6, took / times[LIMIT], times[LIMIT] / took)
         )
 
 
@@ -141,8 +167,14 @@ def main():
         rapid = yardstick(folder)
         if rapid is not None:
             peers.append(("RapidJSON", [rapid]))
-        for profile, make_text in (("ids", number_texts), ("any", mixed_nodes)):
-            measure(profile, make_text, rounds, peers, folder)
+        itself = [("recode any", [PROGRAM, "recode", "any"])]
+        for profile, make_text, written, beside in (
+            ("any", mixed_nodes, as_it_is, peers),
+            ("ids", number_texts, as_it_is, peers),
+            ("flex", numbers_and_texts, without_quotes, itself),
+            ("table", byte_table, as_it_is, itself),
+        ):
+            measure(profile, make_text, written, rounds, beside, folder)
 
 
 main()
