@@ -7,6 +7,7 @@ pub mod display;
 mod each;
 pub mod faithful;
 pub mod formats;
+pub mod laws;
 pub mod recode;
 pub mod same;
 pub mod token;

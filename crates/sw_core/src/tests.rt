@@ -5,6 +5,9 @@ use crate::adapter::{Adapter, DeserializeAs};
 use crate::as_::As;
 use crate::display::DisplayFromStr;
 use crate::faithful::faithful;
+use crate::laws::{
+    are_copies_free, are_leaves_free, are_parsed_leaves_free, is_list_free, is_parsed_text_free,
+};
 use crate::recode::RecodeError;
 use crate::same::Same;
 use std::alloc::{AllocError, Global};
@@ -267,4 +270,13 @@ fn nests_are_described(rt: HostRuntime) -> Result<(), AllocError> {
 fn an_element_is_free_where_it_is_a_number(rt: HostRuntime) {
     assert!(rt; <Same as DeserializeAs<u32>>::FREE);
     assert!(rt; !<Same as DeserializeAs<String>>::FREE);
+}
+
+#[test]
+fn what_is_copied_takes_memory(rt: HostRuntime) {
+    assert!(rt; are_leaves_free());
+    assert!(rt; !are_copies_free());
+    assert!(rt; are_parsed_leaves_free());
+    assert!(rt; !is_parsed_text_free());
+    assert!(rt; !is_list_free::<u8, Same>());
 }

@@ -1,6 +1,7 @@
 //! Maps over lists of pairs: every entry is kept, in order.
 #![tactic(auto)]
 
+pub mod laws;
 pub mod map;
 mod pairs;
 

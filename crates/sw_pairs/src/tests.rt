@@ -1,3 +1,4 @@
+use crate::laws::is_map_free;
 use crate::map::Map;
 use std::alloc::{AllocError, Global};
 use sw_check::blame::CheckFail;
@@ -262,4 +263,9 @@ fn a_list_is_no_key_of_json(rt: HostRuntime) -> Result<(), AllocError> {
         Err(_) => assert!(rt; false),
     }
     Ok(())
+}
+
+#[test]
+fn a_map_takes_memory(rt: HostRuntime) {
+    assert!(rt; !is_map_free::<u8, u8, Same, Same>());
 }
