@@ -2,12 +2,15 @@ pub mod BuilderLemmas
 pub mod CellLemmas
 pub mod Children
 pub mod Gained
+pub mod Gathered
 pub mod GrowLemmas
 pub mod ImageLemmas
 pub mod KindsLemmas
 pub mod Lists
 pub mod NumberLemmas
 pub mod PathLemmas
+pub mod Remaining
 pub mod Rows
+pub mod Shorts
 pub mod Shown
 pub mod Sizes

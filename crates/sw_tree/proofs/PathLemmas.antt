@@ -1,10 +1,10 @@
 -- Steps to children.
-use Rattle.std.proofs.Common.{ℕ, zero, suc, ◌+◌, ◌≤◌, ◌<◌, ◌≡◌, Bool, true, false, List, [], ◌∷◌, ◌++◌, length, drop, get_or, Option, Some, None, refl, ap, arith, add-one}
+use Rattle.std.proofs.Common.{ℕ, zero, suc, ◌+◌, ◌≤◌, ◌<◌, ◌≡◌, Bool, true, false, List, [], ◌∷◌, ◌++◌, length, drop, get_or, Option, Some, None, refl, ap, sym, ◌∙◌, arith, add-one}
 use Rattle.std.specs.Prelude.{slice_get}
 use Rattle.std.specs.Option.{option_and_then}
 use Rattle.std.proofs.Math.Seq.{drop-cons}
 use Rattle.sw_tree.specs.Tree.{Tree, Trees, Entries, null, truth, int, text, bytes, list, map, no_trees, tree, no_entries, entry, items, pairs, size, trees_size, entries_size, len_of}
-use Rattle.sw_tree.specs.Seen.{Seen, row, entry_row, behind, items_seen, entries_seen}
+use Rattle.sw_tree.specs.Seen.{Seen, row, entry_row, behind, place_at, items_seen, entries_seen}
 use Rattle.sw_tree.specs.Path.{child, node_seen, HasPlace, Holds, HoldsPair, Nearer}
 use Rattle.sw_tree.specs.declared.path.Step.{Step}
 use Rattle.sw_tree.specs.declared.path.Step.TheVariants.{Item, Key, Value}
@@ -34,6 +34,22 @@ row_length c p (t ∷ ts) = ap suc (row_length c (behind c p t) ts)
 pub entry_row_length : (c : Bool) (p : ℕ) (es : List (Tree × Tree)) → length (entry_row c p es) ≡ length es
 entry_row_length c p [] = refl
 entry_row_length c p (e ∷ es) = ap suc (entry_row_length c (behind c (behind c p e.0) e.1) es)
+
+pub items_length : (s : Seen) (xs : List Seen) → items_seen s ≡ Some xs → length xs ≡ len_of s.tree
+items_length s xs e = items_length_of s.tree s.place s.counts xs e
+  where
+    items_length_of : (t : Tree) (p : ℕ) (c : Bool) (xs : List Seen) → items_seen (record { tree = t; place = p; counts = c }) ≡ Some xs → length xs ≡ len_of t
+    items_length_of (list ts) p c xs e = let is : row c (place_at (record { tree = list ts; place = p; counts = c }) 1) (items ts) ≡ xs = cc in ap length (sym is) ∙ row_length c (place_at (record { tree = list ts; place = p; counts = c }) 1) (items ts)
+    items_length_of _ p c xs e = absurd (cc)
+
+pub entries_length : (s : Seen) (xs : List (Seen × Seen)) → entries_seen s ≡ Some xs → length xs ≡ len_of s.tree
+entries_length s xs e = entries_length_of s.tree s.place s.counts xs e
+  where
+    entries_length_of : (t : Tree) (p : ℕ) (c : Bool) (xs : List (Seen × Seen)) → entries_seen (record { tree = t; place = p; counts = c }) ≡ Some xs → length xs ≡ len_of t
+    entries_length_of (map es) p c xs e =
+        let is : entry_row c (place_at (record { tree = map es; place = p; counts = c }) 1) (pairs es) ≡ xs = cc in
+        ap length (sym is) ∙ entry_row_length c (place_at (record { tree = map es; place = p; counts = c }) 1) (pairs es)
+    entries_length_of _ p c xs e = absurd (cc)
 
 -- what is known of the items of a node over a place
 pub record OfItems (s : Seen) (place : ℕ) (xs : List Seen) : Type 0 where

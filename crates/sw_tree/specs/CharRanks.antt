@@ -39,7 +39,7 @@ by c false true z = two c
 by c false false true = three c
 by c false false false = four c
 
-decoded-encode : (c : ℕ) → decoded (encode_utf8 c) ≡ c
+pub decoded-encode : (c : ℕ) → decoded (encode_utf8 c) ≡ c
 unfolding encode_utf8
 decoded-encode c = by c (nat_lt c 128) (nat_lt c 2048) (nat_lt c 65536)
 

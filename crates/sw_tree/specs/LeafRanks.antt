@@ -9,7 +9,7 @@ use Rattle.std.specs.Cmp.Lexicographic.{slice_cmp, nat_list_cmp_total}
 use Rattle.std.proofs.lemmas.Bool.{eqb-true, ltb-true, ltb-false, eqb-false}
 use Rattle.std.proofs.lemmas.Map.Lookups.{exact_bytes, exact_signed}
 use Rattle.sw_tree.specs.Meaning.{Meaning, nothing, truth, number, text}
-use Rattle.sw_tree.specs.Meant.{IsNothing, IsTruth, IsBelow, IsSigned, IsText}
+use Rattle.sw_tree.specs.Meant.{IsNothing, IsTruth, IsBelow, IsSigned, IsWholeNumber, IsText}
 use Rattle.sw_tree.specs.Ranks.{Order, Ranks, TellsApart, Of, ranks_from_total}
 
 -- all are equal
@@ -75,6 +75,11 @@ pub signed_apart : (w : Width) → TellsApart (IsSigned w) number_order
 signed_apart w (number a) (number b) h k e = ap number (exact_signed a b e)
 signed_apart w (number a) _ h k e = absurd k
 signed_apart w _ y h k e = absurd h
+
+pub whole_apart : TellsApart IsWholeNumber number_order
+whole_apart (number a) (number b) h k e = ap number (exact_signed a b e)
+whole_apart (number a) _ h k e = absurd k
+whole_apart _ y h k e = absurd h
 
 pub texts_apart : TellsApart IsText text_order
 texts_apart (text a) (text b) h k e = ap text (exact_bytes a b e)

@@ -6,6 +6,8 @@ pub mod Steps
 pub mod Tree
 pub mod Proper
 pub mod ProperLaws
+pub mod Short
+pub mod NodeTrees
 pub mod TreeCode
 pub mod NodeShape
 pub mod NodeFalls
@@ -25,8 +27,12 @@ pub mod PathText
 pub mod Placed
 pub mod Nodes
 pub mod Image
+pub mod Utf8
 pub mod Imaged
+pub mod Raw
+pub mod Faults
 pub mod Wires
+pub mod WireLaws
 pub mod Meaning
 pub mod Meant
 pub mod Ranks
@@ -35,4 +41,11 @@ pub mod CharRanks
 pub mod OptionRanks
 pub mod PairRanks
 pub mod ListRanks
+pub mod Sorted
+pub mod SortedLaws
+pub mod HashedLaws
 pub mod SameMeaning
+pub mod LeafSame
+pub mod OptionSame
+pub mod PairSame
+pub mod ListSame

@@ -1,19 +1,18 @@
 -- The meanings of std's values.
-use Rattle.std.specs.Prelude.{◌≡◌, ℕ, zero, suc, ◌<◌, pos, true, List, [], ◌∷◌, map, length, Option, Some, None, String, string_bytes, FitsSigned}
+use Rattle.std.specs.Prelude.{◌≡◌, ℕ, zero, suc, ◌<◌, pos, true, List, [], ◌∷◌, map, length, Option, Some, None, Result, Ok, Err, String, string_bytes, FitsSigned}
 use Rattle.std.proofs.Common.{ap, ◌∙◌}
 use Rattle.std.specs.Int.{Width}
 use Rattle.std.specs.Char.{IsScalar, encode_utf8}
 use Rattle.std.specs.Str.{is_utf8}
 use Rattle.std.specs.Coded.{Coded-set, coded_bool}
 use Rattle.std.specs.declared.alloc.Global.{Global}
+use Rattle.std.specs.declared.ops.Bound.{Bound}
+use Rattle.std.specs.declared.ops.Bound.TheVariants.{Included, Excluded, Unbounded}
 use Rattle.std.proofs.Math.Logic.{∥∥₁_elim}
 use Rattle.std.proofs.lemmas.Str.{is_utf8-from_IsUtf8}
-use Rattle.sw_tree.specs.Meaning.{Meaning, nothing, truth, number, text, list, case, no_meanings, meaning, meanings, parts, parts-meanings}
+use Rattle.sw_tree.specs.Meaning.{Meaning, Meanings, nothing, truth, number, text, list, case, no_meanings, meaning, meanings, parts, parts-meanings}
 use Rattle.sw_tree.specs.Steps.{Each}
-
--- every value is in hand
-abbrev pub Always : {T : Type 0} → T → Type 0
-Always x = Unit {0}
+use Rattle.sw_tree.specs.NumberLaws.{IsInRange}
 
 -- ---- (), truth values and numbers
 
@@ -37,6 +36,11 @@ IsBelow limit _ = ⊥
 abbrev pub IsSigned : Width → Meaning → Type 0
 IsSigned w (number z) = FitsSigned w z
 IsSigned w _ = ⊥
+
+-- a number from -2^127 to 2^128 - 1
+abbrev pub IsWholeNumber : Meaning → Type 0
+IsWholeNumber (number z) = IsInRange z
+IsWholeNumber _ = ⊥
 
 -- ---- texts
 
@@ -70,14 +74,6 @@ IsOptionOf P (case zero nothing) = Unit {0}
 IsOptionOf P (case (suc zero) v) = P v
 IsOptionOf P _ = ⊥
 
-abbrev pub IfSomeHas : {T : Type 0} → (T → Type 0) → Option T → Type 0
-IfSomeHas H None = Unit {0}
-IfSomeHas H (Some x) = H x
-
-pub option_meaning-is : {T : Type 0} (f : T → Meaning) (H : T → Type 0) (P : Meaning → Type 0) → ((x : T) → H x → P (f x)) → (o : Option T) → IfSomeHas H o → IsOptionOf P (option_meaning f o)
-option_meaning-is f H P h None k = tt
-option_meaning-is f H P h (Some x) k = h x k
-
 -- ---- lists, arrays and pairs
 
 abbrev pub list_meaning : {T : Type 0} → (T → Meaning) → List T → Meaning
@@ -87,9 +83,8 @@ abbrev pub IsListOf : (Meaning → Type 0) → Meaning → Type 0
 IsListOf P (list vs) = Each P (parts vs)
 IsListOf P _ = ⊥
 
-pub list_meaning-is : {T : Type 0} (f : T → Meaning) (H : T → Type 0) (P : Meaning → Type 0) → ((x : T) → H x → P (f x)) → (xs : List T) → Each H xs → IsListOf P (list_meaning f xs)
-list_meaning-is f H P h [] k = tt
-list_meaning-is f H P h (x ∷ xs) k = (h x k.0, list_meaning-is f H P h xs k.1)
+pub list_meaning-is : {T : Type 0} (f : T → Meaning) (P : Meaning → Type 0) (xs : List T) → Each P (map f xs) → IsListOf P (list_meaning f xs)
+list_meaning-is f P xs h = rw (parts-meanings (map f xs)) h
 
 -- a list of so many
 abbrev pub IsArrayOf : (Meaning → Type 0) → ℕ → Meaning → Type 0
@@ -100,8 +95,8 @@ same_length : {T : Type 0} (f : T → Meaning) (xs : List T) → length (parts (
 same_length f [] = ap length (parts-meanings [])
 same_length f (x ∷ xs) = ap suc (same_length f xs)
 
-pub array_meaning-is : {T : Type 0} (f : T → Meaning) (H : T → Type 0) (P : Meaning → Type 0) → ((x : T) → H x → P (f x)) → (n : ℕ) (xs : List T) → Each H xs × (length xs ≡ n) → IsArrayOf P n (list_meaning f xs)
-array_meaning-is f H P h n xs k = (list_meaning-is f H P h xs k.0, same_length f xs ∙ k.1)
+pub array_meaning-is : {T : Type 0} (f : T → Meaning) (P : Meaning → Type 0) (n : ℕ) (xs : List T) → Each P (map f xs) → length xs ≡ n → IsArrayOf P n (list_meaning f xs)
+array_meaning-is f P n xs h e = (list_meaning-is f P xs h, same_length f xs ∙ e)
 
 abbrev pub pair : Meaning → Meaning → Meaning
 pair a b = list (meaning a (meaning b no_meanings))
@@ -112,3 +107,39 @@ pair_meaning f g p = pair (f p.0) (g p.1)
 abbrev pub IsPairOf : (Meaning → Type 0) → (Meaning → Type 0) → Meaning → Type 0
 IsPairOf P Q (list (meaning a (meaning b no_meanings))) = P a × Q b
 IsPairOf P Q _ = ⊥
+
+-- ---- rows: so many meanings, each of its own kind
+
+abbrev pub row : List Meaning → Meaning
+row vs = list (meanings vs)
+
+abbrev pub AreOf : List (Meaning → Type 0) → Meanings → Type 0
+AreOf [] no_meanings = Unit {0}
+AreOf (P ∷ Ps) (meaning v vs) = P v × AreOf Ps vs
+AreOf _ _ = ⊥
+
+abbrev pub IsRowOf : List (Meaning → Type 0) → Meaning → Type 0
+IsRowOf Ps (list vs) = AreOf Ps vs
+IsRowOf Ps _ = ⊥
+
+-- ---- results and the ends of ranges
+
+abbrev pub result_meaning : {T E : Type 0} → (T → Meaning) → (E → Meaning) → Result T E → Meaning
+result_meaning f g (Ok x) = case 0 (f x)
+result_meaning f g (Err e) = case 1 (g e)
+
+abbrev pub IsResultOf : (Meaning → Type 0) → (Meaning → Type 0) → Meaning → Type 0
+IsResultOf P Q (case zero v) = P v
+IsResultOf P Q (case (suc zero) v) = Q v
+IsResultOf P Q _ = ⊥
+
+abbrev pub bound_meaning : {T : Type 0} → (T → Meaning) → Bound T → Meaning
+bound_meaning f (Included x) = case 0 (f x)
+bound_meaning f (Excluded x) = case 1 (f x)
+bound_meaning f Unbounded = case 2 nothing
+
+abbrev pub IsBoundOf : (Meaning → Type 0) → Meaning → Type 0
+IsBoundOf P (case zero v) = P v
+IsBoundOf P (case (suc zero) v) = P v
+IsBoundOf P (case (suc (suc zero)) nothing) = Unit {0}
+IsBoundOf P _ = ⊥

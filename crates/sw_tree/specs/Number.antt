@@ -1,5 +1,5 @@
 -- The whole number that a text spells (RFC 8259, section 6).
-use Rattle.std.specs.Prelude.{ℕ, ◌+◌, ◌-◌, ◌*◌, ◌^◌, ℤ, pos, neg_ℤ, List, [], ◌∷◌, Bool, true, false, ◌&&◌, ◌==◌, nat_lt, nat_le, if◌then◌else◌, Option, Some, None}
+use Rattle.std.specs.Prelude.{◌≡◌, ℕ, ◌<◌, ◌+◌, ◌-◌, ◌*◌, ◌^◌, ℤ, pos, neg_ℤ, List, [], ◌∷◌, Bool, true, false, ◌&&◌, ◌==◌, nat_lt, nat_le, if◌then◌else◌, Option, Some, None}
 use Rattle.std.specs.List.{list_all}
 
 -- DIGIT
@@ -46,10 +46,21 @@ is_whole (b ∷ bs) = if b == 45 then nat_lt 0 (value_of bs) && nat_le (value_of
 abbrev pub whole_of : List ℕ → Option ℤ
 whole_of s = if is_whole s then Some (int_of s) else None
 
--- that integer of digits behind a minus, where it is one
-abbrev pub negative_of : List ℕ → Option ℤ
-negative_of ds = if nat_lt 0 (value_of ds) && nat_le (value_of ds) (2 ^ 127) then Some (neg_ℤ (pos (value_of ds))) else None
-
 -- the integer that a text spells, where it spells one
 abbrev pub key_number : List ℕ → Option ℤ
 key_number s = if is_number s then whole_of s else None
+
+-- digits alone, of a value below 2^128
+pub record AreWide (ds : List ℕ) : Type 0 where
+  pub digits : list_all is_digit ds ≡ true
+  pub small : value_of ds < 2 ^ 128
+
+-- an int, of a value below 2^128
+pub record IsWideInt (ds : List ℕ) : Type 0 where
+  pub int : is_int ds ≡ true
+  pub small : value_of ds < 2 ^ 128
+
+-- digits alone, of that value
+pub record AreDigitsOf (ds : List ℕ) (n : ℕ) : Type 0 where
+  pub digits : list_all is_digit ds ≡ true
+  pub value : n ≡ value_of ds

@@ -20,11 +20,11 @@ abbrev pub pair_order : Order → Order → Order
 pair_order R S x y = ordering_then (R (first x) (first y)) (S (second x) (second y))
 
 module _ (P Q : Meaning → Type 0) where
-  first_is : (x : Meaning) → IsPairOf P Q x → P (first x)
+  pub first_is : (x : Meaning) → IsPairOf P Q x → P (first x)
   first_is (list (meaning a (meaning b no_meanings))) h = h.0
   first_is _ h = absurd h
 
-  second_is : (x : Meaning) → IsPairOf P Q x → Q (second x)
+  pub second_is : (x : Meaning) → IsPairOf P Q x → Q (second x)
   second_is (list (meaning a (meaning b no_meanings))) h = h.1
   second_is _ h = absurd h
 

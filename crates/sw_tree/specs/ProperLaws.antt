@@ -6,7 +6,7 @@ use Rattle.std.proofs.Props.{props}
 use Rattle.sw_tree.specs.NumberLaws.{IsInRange}
 use Rattle.sw_tree.specs.Steps.{Each}
 use Rattle.sw_tree.specs.Tree.{Tree, null, truth, int, text, bytes, list, map, Trees, no_trees, tree, Entries, no_entries, entry, trees, entries, turns}
-use Rattle.sw_tree.specs.Proper.{IsProper, AreProper, AreProperEntries}
+use Rattle.sw_tree.specs.Proper.{IsProper, AreProper, AreProperEntries, IsNodeTree}
 
 IsInRange-prop : (z : ℤ) → IsProp (IsInRange z)
 IsInRange-prop (pos n) = hlevel props
@@ -33,6 +33,9 @@ mutual
   AreProperEntries-prop : (es : Entries) → IsProp (AreProperEntries es)
   AreProperEntries-prop no_entries = Unit-prop
   AreProperEntries-prop (entry key value es) = λ a b. λ i. (IsProper-prop key a.0 b.0 i, IsProper-prop value a.1 b.1 i, AreProperEntries-prop es a.2 b.2 i)
+
+pub IsNodeTree-prop : (t : Tree) → IsProp (IsNodeTree t)
+IsNodeTree-prop t = let proper = IsProper-prop t in hlevel (props, proper)
 
 pub proper-push : (ts : List Tree) (t : Tree) → AreProper (trees ts) → IsProper t → AreProper (trees (ts ++ t ∷ []))
 proper-push [] t h p = (p, tt)

@@ -1,5 +1,8 @@
 //! The meanings of boxes, options, lists, arrays and pairs, by those of their parts.
 
+ghost use Rattle.std.specs.Prelude.{map};
+ghost use Rattle.sw_tree.specs.Steps.{Each};
+
 use crate::meant::{Meant, Named};
 use crate::ranked::{Keyed, Ranked};
 
@@ -11,9 +14,9 @@ impl<T: Named> Named for Box<T> {
 }
 
 impl<T: Meant> Meant for Box<T> {
-    ghost in_hand = { λ b. T.in_hand b.value };
-
-    ghost meaning_is = { λ b h. T.meaning_is b.value h };
+    fn in_hand(&self) {
+        (**self).in_hand();
+    }
 }
 
 impl<T: Ranked> Ranked for Box<T> {
@@ -26,6 +29,10 @@ impl<T: Ranked> Ranked for Box<T> {
 
 impl<T: Keyed> Keyed for Box<T> {
     ghost apart = { T.apart };
+
+    ghost same = { λ x y. T.same x.value y.value };
+
+    ghost alike = { λ x y. T.alike x.value y.value };
 }
 
 /// An option is a case: 0 without a value, 1 with its value.
@@ -38,11 +45,11 @@ impl<T: Named> Named for Option<T> {
 }
 
 impl<T: Meant> Meant for Option<T> {
-    ghost use Rattle.sw_tree.specs.Meant.{IfSomeHas, option_meaning-is};
-
-    ghost in_hand = { IfSomeHas T.in_hand };
-
-    ghost meaning_is = { option_meaning-is T.meaning T.in_hand T.is_meaning T.meaning_is };
+    fn in_hand(&self) {
+        if let Some(value) = self {
+            value.in_hand();
+        }
+    }
 }
 
 impl<T: Ranked> Ranked for Option<T> {
@@ -57,8 +64,13 @@ impl<T: Ranked> Ranked for Option<T> {
 
 impl<T: Keyed> Keyed for Option<T> {
     ghost use Rattle.sw_tree.specs.OptionRanks.{options_apart};
+    ghost use Rattle.sw_tree.specs.OptionSame.{options_same, options_alike};
 
     ghost apart = { options_apart T.is_meaning T.order T.apart };
+
+    ghost same = { options_same T.is_meaning T.meaning T.eq T.same };
+
+    ghost alike = { options_alike T.is_meaning T.meaning T.hash_input T.alike };
 }
 
 impl<T: Named> Named for Vec<T> {
@@ -70,12 +82,9 @@ impl<T: Named> Named for Vec<T> {
 }
 
 impl<T: Meant> Meant for Vec<T> {
-    ghost use Rattle.sw_tree.specs.Steps.{Each};
-    ghost use Rattle.sw_tree.specs.Meant.{list_meaning-is};
-
-    ghost in_hand = { λ v. Each T.in_hand v.items };
-
-    ghost meaning_is = { λ v h. list_meaning-is T.meaning T.in_hand T.is_meaning T.meaning_is v.items h };
+    fn in_hand(&self) {
+        each_in_hand(self.as_slice());
+    }
 }
 
 impl<T: Ranked> Ranked for Vec<T> {
@@ -90,8 +99,13 @@ impl<T: Ranked> Ranked for Vec<T> {
 
 impl<T: Keyed> Keyed for Vec<T> {
     ghost use Rattle.sw_tree.specs.ListRanks.{lists_apart};
+    ghost use Rattle.sw_tree.specs.ListSame.{lists_same, lists_alike};
 
     ghost apart = { lists_apart T.is_meaning T.order T.apart };
+
+    ghost same = { λ x y. lists_same T.is_meaning T.meaning T.eq T.same x.items y.items };
+
+    ghost alike = { λ x y. lists_alike T.is_meaning T.meaning T.hash_input T.alike x.items y.items };
 }
 
 impl<T: Named, const N: usize> Named for [T; N] {
@@ -103,13 +117,9 @@ impl<T: Named, const N: usize> Named for [T; N] {
 }
 
 impl<T: Meant, const N: usize> Meant for [T; N] {
-    ghost use Rattle.std.specs.Prelude.{◌≡◌, length};
-    ghost use Rattle.sw_tree.specs.Steps.{Each};
-    ghost use Rattle.sw_tree.specs.Meant.{array_meaning-is};
-
-    ghost in_hand = { λ xs. Each T.in_hand xs × (length xs ≡ N) };
-
-    ghost meaning_is = { array_meaning-is T.meaning T.in_hand T.is_meaning T.meaning_is N };
+    fn in_hand(&self) {
+        each_in_hand(self.as_slice());
+    }
 }
 
 impl<T: Ranked, const N: usize> Ranked for [T; N] {
@@ -124,8 +134,13 @@ impl<T: Ranked, const N: usize> Ranked for [T; N] {
 
 impl<T: Keyed, const N: usize> Keyed for [T; N] {
     ghost use Rattle.sw_tree.specs.ListRanks.{arrays_apart};
+    ghost use Rattle.sw_tree.specs.ListSame.{arrays_same, arrays_alike};
 
     ghost apart = { arrays_apart T.is_meaning T.order T.apart N };
+
+    ghost same = { arrays_same T.is_meaning T.meaning T.eq T.same N };
+
+    ghost alike = { arrays_alike T.is_meaning T.meaning T.hash_input T.alike N };
 }
 
 impl<A: Named, B: Named> Named for (A, B) {
@@ -137,9 +152,10 @@ impl<A: Named, B: Named> Named for (A, B) {
 }
 
 impl<A: Meant, B: Meant> Meant for (A, B) {
-    ghost in_hand = { λ p. A.in_hand p.0 × B.in_hand p.1 };
-
-    ghost meaning_is = { λ p h. (A.meaning_is p.0 h.0, B.meaning_is p.1 h.1) };
+    fn in_hand(&self) {
+        self.0.in_hand();
+        self.1.in_hand();
+    }
 }
 
 impl<A: Ranked, B: Ranked> Ranked for (A, B) {
@@ -155,6 +171,20 @@ impl<A: Ranked, B: Ranked> Ranked for (A, B) {
 
 impl<A: Keyed, B: Keyed> Keyed for (A, B) {
     ghost use Rattle.sw_tree.specs.PairRanks.{pairs_apart};
+    ghost use Rattle.sw_tree.specs.PairSame.{pairs_same, pairs_alike};
 
     ghost apart = { pairs_apart A.is_meaning B.is_meaning A.order B.order A.apart B.apart };
+
+    ghost same = { pairs_same A.is_meaning B.is_meaning A.meaning B.meaning A.eq B.eq A.same B.same };
+
+    ghost alike = { pairs_alike A.is_meaning B.is_meaning A.meaning B.meaning A.hash_input B.hash_input A.alike B.alike };
+}
+
+/// Each of these is in hand.
+pub(crate) fn each_in_hand<T: Meant>(items: &[T])
+    ensures { Each T.is_meaning (map T.meaning items.now) }
+{
+    for item in items {
+        item.in_hand();
+    }
 }

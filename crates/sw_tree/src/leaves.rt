@@ -13,11 +13,9 @@ impl Named for () {
 }
 
 impl Meant for () {
-    ghost use Rattle.sw_tree.specs.Meant.{Always};
-
-    ghost in_hand = { Always };
-
-    ghost meaning_is = { λ _ h. tt };
+    fn in_hand(&self) {
+        let _value = *self;
+    }
 }
 
 impl Ranked for () {
@@ -33,9 +31,14 @@ impl Ranked for () {
 }
 
 impl Keyed for () {
+    ghost use Rattle.std.specs.Prelude.{refl};
     ghost use Rattle.sw_tree.specs.LeafRanks.{nothing_apart};
 
     ghost apart = { nothing_apart };
+
+    ghost same = { λ _ _ _ _. (λ _. refl, λ _. refl) };
+
+    ghost alike = { λ _ _ _ _. refl };
 }
 
 impl Named for bool {
@@ -48,11 +51,9 @@ impl Named for bool {
 }
 
 impl Meant for bool {
-    ghost use Rattle.sw_tree.specs.Meant.{Always};
-
-    ghost in_hand = { Always };
-
-    ghost meaning_is = { λ x h. tt };
+    fn in_hand(&self) {
+        let _value = *self;
+    }
 }
 
 impl Ranked for bool {
@@ -68,9 +69,16 @@ impl Ranked for bool {
 }
 
 impl Keyed for bool {
+    ghost use Rattle.std.specs.Cmp.{booleans_Decides};
+    ghost use Rattle.std.specs.Hash as fed;
     ghost use Rattle.sw_tree.specs.LeafRanks.{truth_apart};
+    ghost use Rattle.sw_tree.specs.LeafSame.{truths_same, truths_alike};
 
     ghost apart = { truth_apart };
+
+    ghost same = { truths_same _ booleans_Decides };
+
+    ghost alike = { truths_alike fed.bool };
 }
 
 /// A character means its text.
@@ -83,12 +91,9 @@ impl Named for char {
 }
 
 impl Meant for char {
-    ghost use Rattle.std.specs.Prelude.{refl};
-    ghost use Rattle.std.specs.Char.{IsScalar};
-
-    ghost in_hand = { IsScalar };
-
-    ghost meaning_is = { λ c h. (c, h, refl) };
+    fn in_hand(&self) {
+        let _value = *self;
+    }
 }
 
 impl Ranked for char {
@@ -103,9 +108,15 @@ impl Ranked for char {
 }
 
 impl Keyed for char {
+    ghost use Rattle.std.specs.Hash as fed;
     ghost use Rattle.sw_tree.specs.CharRanks.{chars_apart};
+    ghost use Rattle.sw_tree.specs.LeafSame.{chars_same, chars_alike};
 
     ghost apart = { chars_apart };
+
+    ghost same = { chars_same };
+
+    ghost alike = { chars_alike fed.char };
 }
 
 impl Named for String {
@@ -117,11 +128,9 @@ impl Named for String {
 }
 
 impl Meant for String {
-    ghost use Rattle.sw_tree.specs.Meant.{Always, text_meaning-is};
-
-    ghost in_hand = { Always };
-
-    ghost meaning_is = { λ x h. text_meaning-is x };
+    fn in_hand(&self) {
+        let _text = self.as_str();
+    }
 }
 
 impl Ranked for String {
@@ -137,7 +146,13 @@ impl Ranked for String {
 }
 
 impl Keyed for String {
+    ghost use Rattle.std.specs.Hash as fed;
     ghost use Rattle.sw_tree.specs.LeafRanks.{texts_apart};
+    ghost use Rattle.sw_tree.specs.LeafSame.{texts_same, texts_alike};
 
     ghost apart = { texts_apart };
+
+    ghost same = { texts_same };
+
+    ghost alike = { texts_alike fed.str };
 }

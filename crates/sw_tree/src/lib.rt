@@ -1,13 +1,16 @@
 //! Trees, the documents that they are read from, and what reading and writing them answers.
 #![tactic(auto)]
 
+mod borrowed;
 pub mod builder;
+mod cases;
 mod cell;
 mod containers;
 pub mod content;
 pub mod doc;
 pub mod fail;
 mod from_node;
+mod hashed;
 pub mod images;
 mod kept;
 pub mod kinds;
@@ -17,11 +20,15 @@ pub mod meant;
 pub mod mode;
 pub mod node;
 pub mod number;
+mod ordered;
 pub mod path;
+mod ranges;
 pub mod ranked;
+mod sequences;
 mod signed;
 pub mod skipped;
 mod to_node;
+mod tuples;
 mod unsigned;
 pub mod view;
 pub mod whole;

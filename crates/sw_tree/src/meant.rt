@@ -9,7 +9,7 @@ pub trait Named {
 
 /// The meaning of a value in hand is one of its type's.
 pub trait Meant: Named + Drop {
-    ghost in_hand: { Self → Type 0 };
-
-    ghost meaning_is: { (x : Self) → in_hand x → Self.is_meaning (Self.meaning x) };
+    /// Does nothing. Its contract says that the value's meaning is one of the type's.
+    fn in_hand(&self)
+        ensures { Self.is_meaning (Self.meaning self.now) };
 }

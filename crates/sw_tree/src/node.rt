@@ -3,6 +3,7 @@
 ghost use Rattle.std.specs.Prelude.{◌≡◌, ◌<◌, ◌≤◌, IfOk, string_bytes};
 ghost use Rattle.sw_tree.specs.Tree.{null, truth, int, text, bytes, list, map, trees, entries, depth, kind_of, trees_depth, entries_depth};
 ghost use Rattle.sw_tree.specs.Proper.{IsProper, AreProper, AreProperEntries};
+ghost use Rattle.sw_tree.specs.Short.{IsShort, AreShort, AreShortEntries};
 
 use crate::content::Content;
 use crate::fail::TooDeep;
@@ -50,10 +51,11 @@ impl Model for Node {
 
     ghost use Rattle.sw_tree.specs.NodeShape.{shape_tree, Counts};
     ghost use Rattle.sw_tree.specs.Proper.{IsProper};
+    ghost use Rattle.sw_tree.specs.Short.{IsShort};
 
     ghost view = { λ a. shape_tree a.shape };
 
-    ghost invariant = { λ a. Counts a.shape a.levels × (depth (shape_tree a.shape) ≤ 128) × IsProper (shape_tree a.shape) };
+    ghost invariant = { λ a. Counts a.shape a.levels × (depth (shape_tree a.shape) ≤ 128) × IsProper (shape_tree a.shape) × IsShort (shape_tree a.shape) };
 
     ghost size = { depth };
 
@@ -102,7 +104,7 @@ impl Node {
     pub fn text(value: String) -> Node
         ensures { result ≡ text (string_bytes value) }
     {
-        let _text = value.as_str();
+        let _text = value.as_str().len();
         Node {
             shape: Shape::Text(value),
             levels: 0,
@@ -113,6 +115,7 @@ impl Node {
     pub fn bytes(value: Vec<u8>) -> Node
         ensures { result ≡ bytes value.items }
     {
+        let _bytes = value.len();
         Node {
             shape: Shape::Bytes(value),
             levels: 1,
@@ -127,6 +130,7 @@ impl Node {
             (λ n. (n ≡ list (trees items.items)) × (depth n ≤ 128))
             (λ _. 128 < depth (list (trees items.items))) }
     {
+        let _count = items.len();
         let most = greatest(items.as_slice());
         if most < 128 {
             Ok(Node {
@@ -146,6 +150,7 @@ impl Node {
             (λ n. (n ≡ map (entries pairs.items)) × (depth n ≤ 128))
             (λ _. 128 < depth (map (entries pairs.items))) }
     {
+        let _count = pairs.len();
         let most = greatest_entry(pairs.as_slice());
         if most < 128 {
             Ok(Node {
@@ -190,7 +195,7 @@ impl Node {
         })
     }
 
-    /// An equal tree. Where it is kept as the document that it was read from, it takes no memory.
+    /// An equal tree. The one error is want of memory.
     #[cycle(copy)]
     pub fn copy(&self, alloc: Global) -> Result<Node, AllocError>
         ensures { IfOk result (λ n. n ≡ self.now) }
@@ -221,6 +226,7 @@ impl Node {
         ensures levels { result ≡ depth self.now }
         ensures within { result ≤ 128 }
         ensures proper { IsProper self.now }
+        ensures short { IsShort self.now }
     {
         match &self.shape {
             Shape::Kept(kept) => levels_of(kept.view()),
@@ -233,6 +239,7 @@ impl Node {
         ensures value { result ≡ kind_of self.now }
         ensures shallow { depth self.now ≤ 128 }
         ensures proper { IsProper self.now }
+        ensures short { IsShort self.now }
     {
         match &self.shape {
             Shape::Null => Kind::Null,
@@ -312,6 +319,7 @@ fn greatest(items: &[Node]) -> u8
     ensures levels { result ≡ trees_depth (trees items.now) }
     ensures within { result ≤ 128 }
     ensures proper { AreProper (trees items.now) }
+    ensures short { AreShort (trees items.now) }
 {
     let mut most = 0;
     for item in items {
@@ -325,6 +333,7 @@ fn greatest_entry(items: &[(Node, Node)]) -> u8
     ensures levels { result ≡ entries_depth (entries items.now) }
     ensures within { result ≤ 128 }
     ensures proper { AreProperEntries (entries items.now) }
+    ensures short { AreShortEntries (entries items.now) }
 {
     let mut most = 0;
     for (key, value) in items {

@@ -14,12 +14,9 @@ impl Named for i8 {
 }
 
 impl Meant for i8 {
-    ghost use Rattle.std.specs.Prelude.{FitsSigned};
-    ghost use Rattle.std.specs.Int.{w8};
-
-    ghost in_hand = { FitsSigned w8 };
-
-    ghost meaning_is = { λ x h. h };
+    fn in_hand(&self) {
+        let _value = *self;
+    }
 }
 
 impl Ranked for i8 {
@@ -37,9 +34,16 @@ impl Ranked for i8 {
 
 impl Keyed for i8 {
     ghost use Rattle.std.specs.Int.{w8};
+    ghost use Rattle.std.specs.Hash as fed;
+    ghost use Rattle.sw_tree.specs.Meant.{IsSigned};
     ghost use Rattle.sw_tree.specs.LeafRanks.{signed_apart};
+    ghost use Rattle.sw_tree.specs.LeafSame.{numbers_same, numbers_alike};
 
     ghost apart = { signed_apart w8 };
+
+    ghost same = { numbers_same (IsSigned w8) };
+
+    ghost alike = { numbers_alike (IsSigned w8) fed.i8 };
 }
 
 impl Named for i16 {
@@ -53,12 +57,9 @@ impl Named for i16 {
 }
 
 impl Meant for i16 {
-    ghost use Rattle.std.specs.Prelude.{FitsSigned};
-    ghost use Rattle.std.specs.Int.{w16};
-
-    ghost in_hand = { FitsSigned w16 };
-
-    ghost meaning_is = { λ x h. h };
+    fn in_hand(&self) {
+        let _value = *self;
+    }
 }
 
 impl Ranked for i16 {
@@ -76,9 +77,16 @@ impl Ranked for i16 {
 
 impl Keyed for i16 {
     ghost use Rattle.std.specs.Int.{w16};
+    ghost use Rattle.std.specs.Hash as fed;
+    ghost use Rattle.sw_tree.specs.Meant.{IsSigned};
     ghost use Rattle.sw_tree.specs.LeafRanks.{signed_apart};
+    ghost use Rattle.sw_tree.specs.LeafSame.{numbers_same, numbers_alike};
 
     ghost apart = { signed_apart w16 };
+
+    ghost same = { numbers_same (IsSigned w16) };
+
+    ghost alike = { numbers_alike (IsSigned w16) fed.i16 };
 }
 
 impl Named for i32 {
@@ -92,12 +100,9 @@ impl Named for i32 {
 }
 
 impl Meant for i32 {
-    ghost use Rattle.std.specs.Prelude.{FitsSigned};
-    ghost use Rattle.std.specs.Int.{w32};
-
-    ghost in_hand = { FitsSigned w32 };
-
-    ghost meaning_is = { λ x h. h };
+    fn in_hand(&self) {
+        let _value = *self;
+    }
 }
 
 impl Ranked for i32 {
@@ -115,9 +120,16 @@ impl Ranked for i32 {
 
 impl Keyed for i32 {
     ghost use Rattle.std.specs.Int.{w32};
+    ghost use Rattle.std.specs.Hash as fed;
+    ghost use Rattle.sw_tree.specs.Meant.{IsSigned};
     ghost use Rattle.sw_tree.specs.LeafRanks.{signed_apart};
+    ghost use Rattle.sw_tree.specs.LeafSame.{numbers_same, numbers_alike};
 
     ghost apart = { signed_apart w32 };
+
+    ghost same = { numbers_same (IsSigned w32) };
+
+    ghost alike = { numbers_alike (IsSigned w32) fed.i32 };
 }
 
 impl Named for i64 {
@@ -131,12 +143,9 @@ impl Named for i64 {
 }
 
 impl Meant for i64 {
-    ghost use Rattle.std.specs.Prelude.{FitsSigned};
-    ghost use Rattle.std.specs.Int.{w64};
-
-    ghost in_hand = { FitsSigned w64 };
-
-    ghost meaning_is = { λ x h. h };
+    fn in_hand(&self) {
+        let _value = *self;
+    }
 }
 
 impl Ranked for i64 {
@@ -154,9 +163,16 @@ impl Ranked for i64 {
 
 impl Keyed for i64 {
     ghost use Rattle.std.specs.Int.{w64};
+    ghost use Rattle.std.specs.Hash as fed;
+    ghost use Rattle.sw_tree.specs.Meant.{IsSigned};
     ghost use Rattle.sw_tree.specs.LeafRanks.{signed_apart};
+    ghost use Rattle.sw_tree.specs.LeafSame.{numbers_same, numbers_alike};
 
     ghost apart = { signed_apart w64 };
+
+    ghost same = { numbers_same (IsSigned w64) };
+
+    ghost alike = { numbers_alike (IsSigned w64) fed.i64 };
 }
 
 impl Named for i128 {
@@ -170,12 +186,9 @@ impl Named for i128 {
 }
 
 impl Meant for i128 {
-    ghost use Rattle.std.specs.Prelude.{FitsSigned};
-    ghost use Rattle.std.specs.Int.{w128};
-
-    ghost in_hand = { FitsSigned w128 };
-
-    ghost meaning_is = { λ x h. h };
+    fn in_hand(&self) {
+        let _value = *self;
+    }
 }
 
 impl Ranked for i128 {
@@ -193,9 +206,16 @@ impl Ranked for i128 {
 
 impl Keyed for i128 {
     ghost use Rattle.std.specs.Int.{w128};
+    ghost use Rattle.std.specs.Hash as fed;
+    ghost use Rattle.sw_tree.specs.Meant.{IsSigned};
     ghost use Rattle.sw_tree.specs.LeafRanks.{signed_apart};
+    ghost use Rattle.sw_tree.specs.LeafSame.{numbers_same, numbers_alike};
 
     ghost apart = { signed_apart w128 };
+
+    ghost same = { numbers_same (IsSigned w128) };
+
+    ghost alike = { numbers_alike (IsSigned w128) fed.i128 };
 }
 
 impl Named for isize {
@@ -209,12 +229,9 @@ impl Named for isize {
 }
 
 impl Meant for isize {
-    ghost use Rattle.std.specs.Prelude.{FitsSigned};
-    ghost use Rattle.std.specs.Int.{w64};
-
-    ghost in_hand = { FitsSigned w64 };
-
-    ghost meaning_is = { λ x h. h };
+    fn in_hand(&self) {
+        let _value = *self;
+    }
 }
 
 impl Ranked for isize {
@@ -232,7 +249,14 @@ impl Ranked for isize {
 
 impl Keyed for isize {
     ghost use Rattle.std.specs.Int.{w64};
+    ghost use Rattle.std.specs.Hash as fed;
+    ghost use Rattle.sw_tree.specs.Meant.{IsSigned};
     ghost use Rattle.sw_tree.specs.LeafRanks.{signed_apart};
+    ghost use Rattle.sw_tree.specs.LeafSame.{numbers_same, numbers_alike};
 
     ghost apart = { signed_apart w64 };
+
+    ghost same = { numbers_same (IsSigned w64) };
+
+    ghost alike = { numbers_alike (IsSigned w64) fed.isize };
 }

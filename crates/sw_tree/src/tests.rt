@@ -1,12 +1,16 @@
 ghost use Rattle.std.specs.Prelude.{◌≡◌, ◌↔◌, IsTrue};
 
 use crate::{
-    Content, DeError, DeFail, DeKind, Doc, DocBuilder, Keyed, Kind, Mode, Node, Place, PrintError,
-    Refusal, SerError, Skipped, Step, View, Whole, WireKind, image, key_number, node_at, path_of,
-    whole_of_spelling, whole_text,
+    Content, DeError, DeFail, DeKind, Doc, DocBuilder, Keyed, Kind, Meant, Mode, Node, Place,
+    PrintError, Refusal, SerError, Skipped, Step, View, Whole, WireKind, image, key_number,
+    node_at, path_of, whole_of_spelling, whole_text,
 };
 use std::alloc::{AllocError, Global};
+use std::borrow::{Cow, CowSlice, CowStr};
+use std::boxed::BoxedSlice;
 use std::cmp::Ordering;
+use std::collections::{BTreeMap, BTreeSet, HashMap, HashSet, LinkedList, VecDeque};
+use std::ops::Bound;
 
 /// `[null, true, 7, 2^100, "A", {"k": "é"}]` and the bytes of `é`, which stand in the input.
 fn document(alloc: Global) -> Result<Doc<'static>, AllocError> {
@@ -231,6 +235,7 @@ fn a_key_spells_a_number(rt: HostRuntime) {
         assert!(rt; key_number(text) == wanted, "{text}");
     }
     assert!(rt; whole_of_spelling(b"-12") == Some(Whole::from_i128(-12)));
+    assert!(rt; whole_of_spelling(b"1:").is_none() && whole_of_spelling(b"-").is_none());
     let text = whole_text(rt.alloc(), Whole::from_i128(-7));
     assert!(rt; matches!(&text, Ok(text) if text.as_str() == "-7"));
 }
@@ -315,10 +320,10 @@ fn order_of<K: Keyed>(first: &K, second: &K) -> Ordering
 
 /// Whether two keys are equal, which they are where their meanings are the same.
 fn is_same<K: Keyed>(first: &K, second: &K) -> bool
-    requires left { K.in_hand first.now }
-    requires right { K.in_hand second.now }
     ensures { IsTrue result ↔ (K.meaning first.now ≡ K.meaning second.now) }
 {
+    first.in_hand();
+    second.in_hand();
     first == second
 }
 
@@ -328,5 +333,86 @@ fn values_have_the_order_of_their_meanings(rt: HostRuntime) {
     assert!(rt; order_of(&(-1i8, true), &(-1, false)) == Ordering::Greater);
     assert!(rt; order_of(&[Some(2u128), None], &[Some(2), Some(1)]) == Ordering::Less);
     assert!(rt; order_of(&(), &()) == Ordering::Equal);
+    assert!(rt; order_of(&Whole::from_u128(1 << 64), &Whole::from_u128(1)) == Ordering::Greater);
     assert!(rt; is_same(&true, &true) && !is_same(&7u8, &8));
+    assert!(rt; is_same(&Whole::from_i128(3), &Whole::from_u128(3)));
+    assert!(rt; !is_same(&[Some(('a', 1i8))], &[Some(('a', 2))]));
+}
+
+/// The meaning of a value in hand is one of its type's.
+fn is_meant<T: Meant>(value: &T) -> bool
+    ensures { IsTrue result × T.is_meaning (T.meaning value.now) }
+{
+    value.in_hand();
+    true
+}
+
+#[test]
+fn plain_values_are_meant(rt: HostRuntime) {
+    assert!(rt;
+        is_meant(&Whole::from_i128(-1)) && is_meant(&(1u8,)) && is_meant(&(1u8, 'a', true))
+    );
+    assert!(rt; is_meant(&(1u8, 2u8, 3u8, 4u8)) && is_meant(&(1u8, 2u8, 3u8, 4u8, 5u8)));
+    assert!(rt;
+        is_meant(&(1u8, 2u8, 3u8, 4u8, 5u8, 6u8)) && is_meant(&(1u8, 2u8, 3u8, 4u8, 5u8, 6u8, 7u8))
+    );
+    assert!(rt; is_meant(&(1u8, 2u8, 3u8, 4u8, 5u8, 6u8, 7u8, 8u8)));
+    assert!(rt;
+        is_meant(&(1u8..2)) && is_meant(&(1u8..)) && is_meant(&(..2u8)) && is_meant(&(1u8..=2))
+    );
+    assert!(rt; is_meant(&Bound::Included(1u8)) && is_meant(&Bound::<u8>::Unbounded));
+    assert!(rt; is_meant(&Ok::<u8, bool>(1)) && is_meant(&Err::<u8, bool>(true)));
+}
+
+fn kept_values_are_meant(alloc: Global) -> Result<bool, AllocError> {
+    let mut queue = VecDeque::new(alloc);
+    queue.push_back(String::from_str(alloc, "a")?)?;
+    let mut linked = LinkedList::new(alloc);
+    linked.push_back(1u8)?;
+    let slice = BoxedSlice::from_slice(alloc, &[1u8, 2])?;
+    let end = Bound::Excluded(String::from_str(alloc, "b")?);
+    let text = CowStr::Owned(String::from_str(alloc, "c")?);
+    Ok(
+        is_meant(&queue)
+            && is_meant(&linked)
+            && is_meant(&slice)
+            && is_meant(&end)
+            && is_meant(&text),
+    )
+}
+
+#[test]
+fn sequences_and_borrowed_values_are_meant(rt: HostRuntime) {
+    assert!(rt; matches!(kept_values_are_meant(rt.alloc()), Ok(true)));
+    let bytes = [1u8, 2];
+    assert!(rt;
+        is_meant(&&bytes[..]) && is_meant(&&bytes) && is_meant(&CowSlice::<u8>::Borrowed(&bytes))
+    );
+    assert!(rt; is_meant(&CowStr::<Global>::Borrowed("a")) && is_meant(&Cow::Borrowed(&bytes)));
+}
+
+/// Calls `in_hand` on a map and a set that are ordered, and on two that are hashed.
+fn hold_maps_and_sets(alloc: Global) -> Result<(), AllocError> {
+    let mut ordered = BTreeMap::new(alloc);
+    ordered.insert(2u8, true)?;
+    ordered.insert(1, false)?;
+    ordered.in_hand();
+    let mut ascending = BTreeSet::new(alloc);
+    ascending.insert('b')?;
+    ascending.insert('a')?;
+    ascending.in_hand();
+    let mut hashed = HashMap::new(alloc);
+    hashed.insert(String::from_str(alloc, "b")?, Some(-1i8))?;
+    hashed.insert(String::from_str(alloc, "a")?, None)?;
+    hashed.in_hand();
+    let mut scattered = HashSet::new(alloc);
+    scattered.insert(2u64)?;
+    scattered.insert(1)?;
+    scattered.in_hand();
+    Ok(())
+}
+
+#[test]
+fn maps_and_sets_are_in_hand(rt: HostRuntime) {
+    assert!(rt; hold_maps_and_sets(rt.alloc()).is_ok());
 }

@@ -13,11 +13,9 @@ impl Named for u8 {
 }
 
 impl Meant for u8 {
-    ghost use Rattle.std.specs.Prelude.{◌<◌, ◌^◌};
-
-    ghost in_hand = { λ x. x < 2 ^ 8 };
-
-    ghost meaning_is = { λ x h. h };
+    fn in_hand(&self) {
+        let _value = *self;
+    }
 }
 
 impl Ranked for u8 {
@@ -34,9 +32,16 @@ impl Ranked for u8 {
 
 impl Keyed for u8 {
     ghost use Rattle.std.specs.Prelude.{◌^◌};
+    ghost use Rattle.std.specs.Hash as fed;
+    ghost use Rattle.sw_tree.specs.Meant.{IsBelow};
     ghost use Rattle.sw_tree.specs.LeafRanks.{below_apart};
+    ghost use Rattle.sw_tree.specs.LeafSame.{unsigned_same, unsigned_alike};
 
     ghost apart = { below_apart (2 ^ 8) };
+
+    ghost same = { unsigned_same (IsBelow (2 ^ 8)) };
+
+    ghost alike = { unsigned_alike (IsBelow (2 ^ 8)) fed.u8 };
 }
 
 impl Named for u16 {
@@ -49,11 +54,9 @@ impl Named for u16 {
 }
 
 impl Meant for u16 {
-    ghost use Rattle.std.specs.Prelude.{◌<◌, ◌^◌};
-
-    ghost in_hand = { λ x. x < 2 ^ 16 };
-
-    ghost meaning_is = { λ x h. h };
+    fn in_hand(&self) {
+        let _value = *self;
+    }
 }
 
 impl Ranked for u16 {
@@ -70,9 +73,16 @@ impl Ranked for u16 {
 
 impl Keyed for u16 {
     ghost use Rattle.std.specs.Prelude.{◌^◌};
+    ghost use Rattle.std.specs.Hash as fed;
+    ghost use Rattle.sw_tree.specs.Meant.{IsBelow};
     ghost use Rattle.sw_tree.specs.LeafRanks.{below_apart};
+    ghost use Rattle.sw_tree.specs.LeafSame.{unsigned_same, unsigned_alike};
 
     ghost apart = { below_apart (2 ^ 16) };
+
+    ghost same = { unsigned_same (IsBelow (2 ^ 16)) };
+
+    ghost alike = { unsigned_alike (IsBelow (2 ^ 16)) fed.u16 };
 }
 
 impl Named for u32 {
@@ -85,11 +95,9 @@ impl Named for u32 {
 }
 
 impl Meant for u32 {
-    ghost use Rattle.std.specs.Prelude.{◌<◌, ◌^◌};
-
-    ghost in_hand = { λ x. x < 2 ^ 32 };
-
-    ghost meaning_is = { λ x h. h };
+    fn in_hand(&self) {
+        let _value = *self;
+    }
 }
 
 impl Ranked for u32 {
@@ -106,9 +114,16 @@ impl Ranked for u32 {
 
 impl Keyed for u32 {
     ghost use Rattle.std.specs.Prelude.{◌^◌};
+    ghost use Rattle.std.specs.Hash as fed;
+    ghost use Rattle.sw_tree.specs.Meant.{IsBelow};
     ghost use Rattle.sw_tree.specs.LeafRanks.{below_apart};
+    ghost use Rattle.sw_tree.specs.LeafSame.{unsigned_same, unsigned_alike};
 
     ghost apart = { below_apart (2 ^ 32) };
+
+    ghost same = { unsigned_same (IsBelow (2 ^ 32)) };
+
+    ghost alike = { unsigned_alike (IsBelow (2 ^ 32)) fed.u32 };
 }
 
 impl Named for u64 {
@@ -121,11 +136,9 @@ impl Named for u64 {
 }
 
 impl Meant for u64 {
-    ghost use Rattle.std.specs.Prelude.{◌<◌, ◌^◌};
-
-    ghost in_hand = { λ x. x < 2 ^ 64 };
-
-    ghost meaning_is = { λ x h. h };
+    fn in_hand(&self) {
+        let _value = *self;
+    }
 }
 
 impl Ranked for u64 {
@@ -142,9 +155,16 @@ impl Ranked for u64 {
 
 impl Keyed for u64 {
     ghost use Rattle.std.specs.Prelude.{◌^◌};
+    ghost use Rattle.std.specs.Hash as fed;
+    ghost use Rattle.sw_tree.specs.Meant.{IsBelow};
     ghost use Rattle.sw_tree.specs.LeafRanks.{below_apart};
+    ghost use Rattle.sw_tree.specs.LeafSame.{unsigned_same, unsigned_alike};
 
     ghost apart = { below_apart (2 ^ 64) };
+
+    ghost same = { unsigned_same (IsBelow (2 ^ 64)) };
+
+    ghost alike = { unsigned_alike (IsBelow (2 ^ 64)) fed.u64 };
 }
 
 impl Named for u128 {
@@ -157,11 +177,9 @@ impl Named for u128 {
 }
 
 impl Meant for u128 {
-    ghost use Rattle.std.specs.Prelude.{◌<◌, ◌^◌};
-
-    ghost in_hand = { λ x. x < 2 ^ 128 };
-
-    ghost meaning_is = { λ x h. h };
+    fn in_hand(&self) {
+        let _value = *self;
+    }
 }
 
 impl Ranked for u128 {
@@ -178,9 +196,16 @@ impl Ranked for u128 {
 
 impl Keyed for u128 {
     ghost use Rattle.std.specs.Prelude.{◌^◌};
+    ghost use Rattle.std.specs.Hash as fed;
+    ghost use Rattle.sw_tree.specs.Meant.{IsBelow};
     ghost use Rattle.sw_tree.specs.LeafRanks.{below_apart};
+    ghost use Rattle.sw_tree.specs.LeafSame.{unsigned_same, unsigned_alike};
 
     ghost apart = { below_apart (2 ^ 128) };
+
+    ghost same = { unsigned_same (IsBelow (2 ^ 128)) };
+
+    ghost alike = { unsigned_alike (IsBelow (2 ^ 128)) fed.u128 };
 }
 
 impl Named for usize {
@@ -193,11 +218,9 @@ impl Named for usize {
 }
 
 impl Meant for usize {
-    ghost use Rattle.std.specs.Prelude.{◌<◌, ◌^◌};
-
-    ghost in_hand = { λ x. x < 2 ^ 64 };
-
-    ghost meaning_is = { λ x h. h };
+    fn in_hand(&self) {
+        let _value = *self;
+    }
 }
 
 impl Ranked for usize {
@@ -214,7 +237,14 @@ impl Ranked for usize {
 
 impl Keyed for usize {
     ghost use Rattle.std.specs.Prelude.{◌^◌};
+    ghost use Rattle.std.specs.Hash as fed;
+    ghost use Rattle.sw_tree.specs.Meant.{IsBelow};
     ghost use Rattle.sw_tree.specs.LeafRanks.{below_apart};
+    ghost use Rattle.sw_tree.specs.LeafSame.{unsigned_same, unsigned_alike};
 
     ghost apart = { below_apart (2 ^ 64) };
+
+    ghost same = { unsigned_same (IsBelow (2 ^ 64)) };
+
+    ghost alike = { unsigned_alike (IsBelow (2 ^ 64)) fed.usize };
 }

@@ -28,12 +28,13 @@ pub struct View<'a> {
 }
 
 impl<'a> View<'a> {
-    ghost use Rattle.std.specs.Prelude.{◌+◌, ◌∷◌, drop, true, false, option_map};
+    ghost use Rattle.std.specs.Prelude.{◌+◌, List, ◌∷◌, drop, Some, true, false, option_map};
     ghost use Rattle.std.specs.Option.{option_copied};
     ghost use Rattle.sw_tree.specs.Tree.{depth, size, kind_of, items_at, len_of, text_at, bytes_at, truth_at, int_at, pairs_at};
     ghost use Rattle.sw_tree.specs.Proper.{IsProper};
+    ghost use Rattle.sw_tree.specs.Short.{IsShort};
     ghost use Rattle.sw_tree.specs.Cells.{IsFine, arity, tree_at, forest, first};
-    ghost use Rattle.sw_tree.specs.Seen.{items_seen, entries_seen};
+    ghost use Rattle.sw_tree.specs.Seen.{Seen, items_seen, entries_seen};
     ghost use Rattle.sw_tree.specs.View.{seen, tree_of, place_in, is_counting, store_of};
 
     #[tactic(auto, unfolding(crate::specs::View::seen))]
@@ -144,12 +145,16 @@ impl<'a> View<'a> {
     fn cell(self) -> Cell
         ensures shallow { depth (tree_of self.entry) ≤ 128 }
         ensures proper { IsProper (tree_of self.entry) }
+        ensures short { IsShort (tree_of self.entry) }
         ensures enough { arity result ≤ length (forest (store_of self.entry) (drop (self.entry.at + 1) self.entry.cells.now)) }
         ensures fine { IsFine (store_of self.entry) result }
         ensures tree { tree_of self.entry ≡ tree_at (store_of self.entry) result (forest (store_of self.entry) (drop (self.entry.at + 1) self.entry.cells.now)) }
         ensures place { (seen self.entry).place ≡ place_in self.entry.fixed self.entry.at }
         ensures counts { (seen self.entry).counts ≡ is_counting self.entry.fixed }
     {
+        let _input = self.input.len();
+        let _side = self.side.len();
+        let _cells = self.cells.len();
         let cell = self.cells[self.at];
         cell
     }
@@ -159,6 +164,7 @@ impl<'a> View<'a> {
         ensures value { result ≡ kind_of (tree_of self.entry) }
         ensures shallow { depth (tree_of self.entry) ≤ 128 }
         ensures proper { IsProper (tree_of self.entry) }
+        ensures short { IsShort (tree_of self.entry) }
     {
         match self.cell() {
             Cell::Null => Kind::Null,
@@ -217,9 +223,19 @@ impl<'a> View<'a> {
         }
     }
 
-    /// How many items a list has, entries a map, bytes a byte string; 0 for every other kind.
-    #[tactic(auto, using(crate::proofs::Lists::lists))]
+    /// How many items a list has, entries a map, bytes a byte string; 0 for every other kind. So `items` and
+    /// `entries` end after so many steps.
     pub fn len(self) -> usize
+        ensures count { result ≡ len_of (tree_of self.entry) }
+        ensures items { (row : List Seen) → items_seen (seen self.entry) ≡ Some row → length row ≡ result }
+        ensures entries { (row : List (Seen × Seen)) → entries_seen (seen self.entry) ≡ Some row → length row ≡ result }
+    {
+        self.count()
+    }
+
+    /// How many items, entries or bytes it has.
+    #[tactic(auto, using(crate::proofs::Lists::lists))]
+    fn count(self) -> usize
         ensures { result ≡ len_of (tree_of self.entry) }
     {
         match self.cell() {
@@ -231,16 +247,14 @@ impl<'a> View<'a> {
         }
     }
 
-    /// An equal tree, which owns copies of the texts and byte strings.
-    ///
-    /// A document's root that is a list or a map is copied whole, with its input, and the
-    /// node's own copies share it.
+    /// An equal tree, which owns its texts and byte strings. The one error is want of memory.
     pub fn to_node(self, alloc: Global) -> Result<Node, AllocError>
         ensures { IfOk result (λ n. n ≡ tree_of self.entry) }
     {
         if self.at != 0 {
             return node_of(alloc, self);
         }
+        // A root with parts is copied as a document, which is a few blocks of memory, and its copies share it.
         match self.kind() {
             Kind::List | Kind::Map => Node::kept(alloc, self.kept(alloc)?),
             _ => node_of(alloc, self),

@@ -1,11 +1,14 @@
+use crate::meant::{Meant, Named};
+use crate::ranked::{Keyed, Ranked};
 use itoa::Buffer;
+use std::cmp::Ordering;
 use std::marker::Model;
 
 /// A whole number from -2^127 to 2^128 - 1.
 ///
 /// A negative one is kept 2^127 higher, below the others, and its bits in two halves: so
 /// the fields in order compare as the numbers do.
-#[derive(Clone, Copy, PartialEq, Eq, PartialOrd, Ord, Hash)]
+#[derive(Clone, Copy, Hash)]
 pub struct Whole {
     upper: bool,
     high: u64,
@@ -147,4 +150,98 @@ impl Whole {
             }
         }
     }
+}
+
+impl PartialEq for Whole {
+    ghost use Rattle.std.specs.Ordering.{int_eq};
+    ghost use Rattle.std.specs.Cmp.{partial_equiv_from_equiv, int_eq_equiv};
+
+    ghost eq = { int_eq };
+
+    ghost laws = { partial_equiv_from_equiv int_eq_equiv };
+
+    fn eq(&self, other: &Self) -> bool {
+        self.upper == other.upper && self.high == other.high && self.low == other.low
+    }
+}
+
+impl Eq for Whole {
+    ghost use Rattle.std.specs.Cmp.{int_eq_equiv};
+
+    ghost laws = { int_eq_equiv };
+}
+
+impl PartialOrd for Whole {
+    ghost use Rattle.std.specs.Prelude.{Some};
+    ghost use Rattle.std.specs.Ordering.{int_cmp};
+    ghost use Rattle.std.specs.Cmp.{signed_po};
+
+    ghost partial_cmp = { λ x y. Some (int_cmp x y) };
+
+    ghost laws = { signed_po };
+
+    fn partial_cmp(&self, other: &Self) -> Option<Ordering> {
+        Some(self.cmp(other))
+    }
+}
+
+/// The order of the numbers, at every two.
+impl Ord for Whole {
+    ghost use Rattle.std.specs.Prelude.{refl};
+    ghost use Rattle.std.specs.Ordering.{int_cmp};
+    ghost use Rattle.std.specs.Cmp.{int_cmp_total};
+
+    ghost cmp = { int_cmp };
+
+    ghost total = { int_cmp_total };
+
+    ghost matches_partial_cmp = { λ x y. refl };
+
+    ghost matches_eq = { λ x y. refl };
+
+    fn cmp(&self, other: &Self) -> Ordering {
+        let upper = self.upper.cmp(&other.upper);
+        let high = self.high.cmp(&other.high);
+        let low = self.low.cmp(&other.low);
+        upper.then(high).then(low)
+    }
+}
+
+impl Named for Whole {
+    ghost use Rattle.sw_tree.specs.Meaning.{number};
+    ghost use Rattle.sw_tree.specs.Meant.{IsWholeNumber};
+
+    ghost meaning = { number };
+
+    ghost is_meaning = { IsWholeNumber };
+}
+
+impl Meant for Whole {
+    fn in_hand(&self) {
+        let _short = self.to_i64();
+    }
+}
+
+impl Ranked for Whole {
+    ghost use Rattle.std.specs.Prelude.{refl};
+    ghost use Rattle.sw_tree.specs.Meant.{IsWholeNumber};
+    ghost use Rattle.sw_tree.specs.LeafRanks.{number_order, number_ranks};
+
+    ghost order = { number_order };
+
+    ghost order_is = { λ x y. refl };
+
+    ghost ranks = { number_ranks IsWholeNumber };
+}
+
+impl Keyed for Whole {
+    ghost use Rattle.sw_tree.specs.Meant.{IsWholeNumber};
+    ghost use Rattle.sw_tree.specs.LeafRanks.{whole_apart};
+    ghost use Rattle.sw_tree.specs.LeafSame.{numbers_same, numbers_alike};
+
+    ghost apart = { whole_apart };
+
+    ghost same = { numbers_same IsWholeNumber };
+
+    ghost alike = { numbers_alike IsWholeNumber _ };
 }

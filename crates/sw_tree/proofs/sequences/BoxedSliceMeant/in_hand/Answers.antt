@@ -1,0 +1,10 @@
+use Rattle.std.proofs.Common.{map, subst}
+use Rattle.std.specs.Box.{boxed_slice_items}
+use Rattle.sw_tree.specs.Steps.{Each}
+use Rattle.sw_tree.specs.Meant.{list_meaning-is}
+use Rattle.sw_tree.proofs.sequences.BoxedSliceMeant.in_hand.Goals as goal
+
+pub returns : goal.returns
+returns g c =
+    list_meaning-is g.T.Named.meaning g.T.Named.is_meaning (boxed_slice_items c.args.self.now)
+    (subst (λ xs. Each g.T.Named.is_meaning (map g.T.Named.meaning xs)) c.as_slice.ensures.value c.each_in_hand.ensures)
