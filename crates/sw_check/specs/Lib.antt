@@ -14,6 +14,7 @@ pub mod Answers
 pub mod Checked
 pub mod Children
 pub mod Found
+pub mod Parts
 pub mod Sound
 pub mod PathText
 pub mod WireOnly

@@ -1,16 +1,19 @@
 ghost use Rattle.std.specs.Prelude.{◌≡◌};
 ghost use Rattle.sw_check.specs.Checked.{checked};
-ghost use Rattle.sw_check.specs.Children.{shown, IsFew};
+ghost use Rattle.sw_check.specs.Children.{shown, behind, IsFew};
+ghost use Rattle.sw_check.specs.Parts.{others};
 
 use crate::expr::{Expr, Shape};
 use crate::options::mode_of;
 use sw_tree::{Mode, WireKind};
 
 /// The children of an expression that are checked, each in its mode: none, one with its number, the
-/// first and the second, or all in one mode.
+/// first of several options, the first and the second, or all in one mode. With the first option come the
+/// others, which aren't checked but tell which kinds are read.
 pub(crate) enum Children<'a> {
     None,
     One(u16, &'a Expr, Mode),
+    First(&'a Expr, &'a [Expr], Mode),
     Two(&'a Expr, Mode, &'a Expr, Mode),
     Each(&'a [Expr], Mode),
 }
@@ -18,6 +21,7 @@ pub(crate) enum Children<'a> {
 /// The children of the expression that are checked in the mode.
 pub(crate) fn children_of<'a>(expr: &'a Expr, mode: Mode) -> Children<'a>
     ensures checked { shown result ≡ checked expr.now mode }
+    ensures others { behind result ≡ others expr.now }
     ensures few { IsFew result }
 {
     match &expr.shape {
@@ -27,7 +31,7 @@ pub(crate) fn children_of<'a>(expr: &'a Expr, mode: Mode) -> Children<'a>
         Shape::MapSet(key, value) => Children::Two(key, mode.key(), value, mode.value()),
         Shape::PickFirst(options) => {
             let options = options.as_slice();
-            Children::One(0, &options[0], mode_of(options, mode))
+            Children::First(&options[0], &options[1..], mode_of(options, mode))
         }
         Shape::OneOrMany(part) => Children::One(0, part, mode.value().buffer()),
         Shape::OneOrManySet(part) => Children::One(0, part, mode.value().buffer()),

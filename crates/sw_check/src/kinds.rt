@@ -1,16 +1,18 @@
 ghost use Rattle.std.specs.Prelude.{◌≡◌, ◌||◌, ◌&&◌};
 ghost use Rattle.sw_tree.specs.Kinds.{has, is_kind};
 ghost use Rattle.sw_tree.specs.declared.mode.Kind.{Kind};
-ghost use Rattle.sw_check.specs.Form.{forms};
-ghost use Rattle.sw_check.specs.Kinds.{kinds_written, kinds_read, any_reads};
+ghost use Rattle.sw_check.specs.Kinds.{kinds_written, kinds_read};
+ghost use Rattle.sw_check.specs.Checked.{checked};
+ghost use Rattle.sw_check.specs.Parts.{others, first_written, first_read, others_read};
 
 use crate::expr::{Expr, Shape};
-use crate::options::mode_of;
-use sw_tree::{Kind, Kinds, Mode, WireKind};
+use crate::parts::Parts;
+use sw_tree::{Kind, Kinds, Mode};
 
 impl Expr {
-    /// The kinds of tree that it writes in the mode.
-    pub(crate) fn kinds_written(&self, mode: Mode) -> Kinds
+    /// The kinds of tree that it writes in the mode, by those of its parts.
+    pub(crate) fn kinds_written(&self, mode: Mode, parts: &Parts) -> Kinds
+        requires { (k : Kind) → has parts.now.written k ≡ first_written (checked self.now mode) k }
         ensures { (k : Kind) → has result k ≡ kinds_written self.now mode k }
     {
         match &self.shape {
@@ -18,13 +20,10 @@ impl Expr {
             Shape::Vec(_) => Kinds::one(Kind::List),
             Shape::Map(_, _) => Kinds::one(Kind::Map),
             Shape::MapSet(_, _) => Kinds::one(Kind::Map),
-            Shape::PickFirst(options) => {
-                let options = options.as_slice();
-                options[0].kinds_written(mode_of(options, mode))
-            }
-            Shape::OneOrMany(part) => part.kinds_written(mode.value().buffer()).with(Kind::List),
-            Shape::OneOrManySet(part) => part.kinds_written(mode.value().buffer()).with(Kind::List),
-            Shape::Option(part) => part.kinds_written(mode).with(Kind::Null),
+            Shape::PickFirst(_) => parts.written,
+            Shape::OneOrMany(_) => parts.written.with(Kind::List),
+            Shape::OneOrManySet(_) => parts.written.with(Kind::List),
+            Shape::Option(_) => parts.written.with(Kind::Null),
             Shape::Set(_) => Kinds::one(Kind::List),
             Shape::KeyMap(_, _) => Kinds::one(Kind::Map),
             Shape::Pairs(_, _) => Kinds::one(Kind::List),
@@ -35,20 +34,18 @@ impl Expr {
             Shape::EmptyNone(_) => Kinds::one(Kind::Text),
             Shape::Skip(_) => Kinds::one(Kind::List),
             Shape::MapSkip(_, _) => Kinds::one(Kind::Map),
-            Shape::Default(part) => part.kinds_written(mode.buffer()),
-            Shape::DefaultNull(part) => part.kinds_written(mode),
-            Shape::ByWire(human, compact) => match mode.wire {
-                WireKind::Json => human.kinds_written(mode),
-                WireKind::Compact => compact.kinds_written(mode),
-            },
+            Shape::Default(_) => parts.written,
+            Shape::DefaultNull(_) => parts.written,
+            Shape::ByWire(_, _) => parts.written,
             Shape::Conv(facts, _) => facts.written,
             Shape::JsonText(_) => Kinds::one(Kind::Text),
         }
     }
 
-    /// The kinds of tree that it reads in the mode.
-    #[cycle(kinds_read)]
-    pub(crate) fn kinds_read(&self, mode: Mode) -> Kinds
+    /// The kinds of tree that it reads in the mode, by those of its parts.
+    pub(crate) fn kinds_read(&self, mode: Mode, parts: &Parts) -> Kinds
+        requires read { (k : Kind) → has parts.now.read k ≡ first_read (checked self.now mode) k }
+        requires others { (k : Kind) → has parts.now.others k ≡ others_read (checked self.now mode) (others self.now) k }
         ensures { (k : Kind) → has result k ≡ kinds_read self.now mode k }
     {
         match &self.shape {
@@ -56,13 +53,10 @@ impl Expr {
             Shape::Vec(_) => Kinds::one(Kind::List),
             Shape::Map(_, _) => Kinds::one(Kind::Map),
             Shape::MapSet(_, _) => Kinds::one(Kind::Map),
-            Shape::PickFirst(options) => {
-                let options = options.as_slice();
-                kinds_of_any(options, mode_of(options, mode))
-            }
-            Shape::OneOrMany(part) => part.kinds_read(mode.value().buffer()).with(Kind::List),
-            Shape::OneOrManySet(part) => part.kinds_read(mode.value().buffer()).with(Kind::List),
-            Shape::Option(part) => part.kinds_read(mode).with(Kind::Null),
+            Shape::PickFirst(_) => parts.read.union(parts.others),
+            Shape::OneOrMany(_) => parts.read.with(Kind::List),
+            Shape::OneOrManySet(_) => parts.read.with(Kind::List),
+            Shape::Option(_) => parts.read.with(Kind::Null),
             Shape::Set(_) => Kinds::one(Kind::List),
             Shape::KeyMap(_, _) => Kinds::one(Kind::Map),
             Shape::Pairs(_, _) => Kinds::one(Kind::List),
@@ -74,27 +68,12 @@ impl Expr {
             Shape::Skip(_) => Kinds::one(Kind::List),
             Shape::MapSkip(_, _) => Kinds::one(Kind::Map),
             Shape::Default(_) => Kinds::all(),
-            Shape::DefaultNull(part) => part.kinds_read(mode).with(Kind::Null),
-            Shape::ByWire(human, compact) => match mode.wire {
-                WireKind::Json => human.kinds_read(mode),
-                WireKind::Compact => compact.kinds_read(mode),
-            },
+            Shape::DefaultNull(_) => parts.read.with(Kind::Null),
+            Shape::ByWire(_, _) => parts.read,
             Shape::Conv(facts, _) => facts.read(mode),
             Shape::JsonText(_) => Kinds::one(Kind::Text),
         }
     }
-}
-
-/// The kinds of tree that one of the options reads.
-#[cycle(kinds_read)]
-fn kinds_of_any(options: &[Expr], mode: Mode) -> Kinds
-    ensures { (k : Kind) → has result k ≡ any_reads (forms options.now) mode k }
-{
-    let mut kinds = Kinds::none();
-    for option in options {
-        kinds = kinds.union(option.kinds_read(mode));
-    }
-    kinds
 }
 
 /// Maps, and that kind where it is so.

@@ -8,10 +8,12 @@ pub mod class;
 pub mod expr;
 pub mod exprs;
 pub mod facts;
+mod found;
 pub mod grade;
 mod grades;
 mod kinds;
 mod options;
+mod parts;
 pub mod rule;
 mod rules;
 

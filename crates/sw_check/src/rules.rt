@@ -1,27 +1,39 @@
 ghost use Rattle.std.specs.Prelude.{◌≡◌};
+ghost use Rattle.sw_tree.specs.Kinds.{has};
+ghost use Rattle.sw_tree.specs.declared.mode.Kind.{Kind};
+ghost use Rattle.sw_check.specs.Kinds.{kinds_written};
 ghost use Rattle.sw_check.specs.Rules.{holds, fault};
+ghost use Rattle.sw_check.specs.Checked.{checked};
+ghost use Rattle.sw_check.specs.Parts.{first_written, first_read, first_grade, second_grade};
 
 use crate::expr::{Expr, Shape};
+use crate::parts::Parts;
 use crate::rule::Rule;
-use sw_tree::{Kind, Mode, Place, WireKind};
+use sw_tree::{Kind, Kinds, Mode, Place, WireKind};
 
-/// The first rule that fails at the expression itself, S2 tried before S1 and the others in order.
-pub(crate) fn fault(expr: &Expr, mode: Mode) -> Option<Rule>
+/// The first rule that fails at the expression itself, which writes these kinds: S2 tried before S1 and the
+/// others in order.
+pub(crate) fn fault(expr: &Expr, mode: Mode, kinds: Kinds, parts: &Parts) -> Option<Rule>
+    requires kinds { (k : Kind) → has kinds k ≡ kinds_written expr.now mode k }
+    requires written { (k : Kind) → has parts.now.written k ≡ first_written (checked expr.now mode) k }
+    requires read { (k : Kind) → has parts.now.read k ≡ first_read (checked expr.now mode) k }
+    requires first { parts.now.grade ≡ first_grade (checked expr.now mode) }
+    requires second { parts.now.second ≡ second_grade (checked expr.now mode) }
     ensures { result ≡ fault expr.now mode }
 {
-    if !writes_keys(expr, mode) {
+    if !writes_keys(expr, mode, kinds) {
         return Some(Rule::S2);
     }
     if !claims_mode(expr, mode) {
         return Some(Rule::S1);
     }
-    if !part_reads_no_list(expr, mode) {
+    if !part_reads_no_list(expr, mode, parts) {
         return Some(Rule::S3);
     }
-    if !part_writes_no_null(expr, mode) {
+    if !part_writes_no_null(expr, mode, parts) {
         return Some(Rule::S4);
     }
-    if !tells_apart_exactly(expr, mode) {
+    if !tells_apart_exactly(expr, mode, parts) {
         return Some(Rule::S5);
     }
     if !can_be_split(expr, mode) {
@@ -48,57 +60,59 @@ fn claims_mode(expr: &Expr, mode: Mode) -> bool
 }
 
 /// S2: as a key of JSON it writes no kind but text, number and truth value.
-fn writes_keys(expr: &Expr, mode: Mode) -> bool
+fn writes_keys(expr: &Expr, mode: Mode, kinds: Kinds) -> bool
+    requires { (k : Kind) → has kinds k ≡ kinds_written expr.now mode k }
     ensures { result ≡ holds Rule.S2 expr.now mode }
 {
     match (mode.wire, mode.place) {
         (WireKind::Json, Place::Key) => {
-            let written = expr.kinds_written(mode);
-            !(written.has(Kind::Null)
-                || written.has(Kind::Bytes)
-                || written.has(Kind::List)
-                || written.has(Kind::Map))
+            !(kinds.has(Kind::Null)
+                || kinds.has(Kind::Bytes)
+                || kinds.has(Kind::List)
+                || kinds.has(Kind::Map))
         }
         _ => true,
     }
 }
 
 /// S3: the part of `OneOrMany`, buffered, reads no list.
-fn part_reads_no_list(expr: &Expr, mode: Mode) -> bool
+fn part_reads_no_list(expr: &Expr, mode: Mode, parts: &Parts) -> bool
+    requires { has parts.now.read Kind.List ≡ first_read (checked expr.now mode) Kind.List }
     ensures { result ≡ holds Rule.S3 expr.now mode }
 {
     match &expr.shape {
-        Shape::OneOrMany(part) => !part.kinds_read(mode.value().buffer()).has(Kind::List),
-        Shape::OneOrManySet(part) => !part.kinds_read(mode.value().buffer()).has(Kind::List),
+        Shape::OneOrMany(_) => !parts.read.has(Kind::List),
+        Shape::OneOrManySet(_) => !parts.read.has(Kind::List),
         _ => true,
     }
 }
 
 /// S4: the part of `Option` or `DefaultOnNull` writes no null.
-fn part_writes_no_null(expr: &Expr, mode: Mode) -> bool
+fn part_writes_no_null(expr: &Expr, mode: Mode, parts: &Parts) -> bool
+    requires { has parts.now.written Kind.Null ≡ first_written (checked expr.now mode) Kind.Null }
     ensures { result ≡ holds Rule.S4 expr.now mode }
 {
     match &expr.shape {
-        Shape::Option(part) => !part.kinds_written(mode).has(Kind::Null),
-        Shape::DefaultNull(part) => !part.kinds_written(mode).has(Kind::Null),
+        Shape::Option(_) => !parts.written.has(Kind::Null),
+        Shape::DefaultNull(_) => !parts.written.has(Kind::Null),
         _ => true,
     }
 }
 
 /// S5: what tells items or entries apart is exact: a set's items, a map's keys, the keys and values
 /// of a set of pairs.
-fn tells_apart_exactly(expr: &Expr, mode: Mode) -> bool
+fn tells_apart_exactly(expr: &Expr, mode: Mode, parts: &Parts) -> bool
+    requires first { parts.now.grade ≡ first_grade (checked expr.now mode) }
+    requires second { parts.now.second ≡ second_grade (checked expr.now mode) }
     ensures { result ≡ holds Rule.S5 expr.now mode }
 {
     match &expr.shape {
-        Shape::Set(part) => part.grade(mode.value()).is_exact(),
-        Shape::OneOrManySet(part) => part.grade(mode.value().buffer()).is_exact(),
-        Shape::KeyMap(key, _) => key.grade(mode.key()).is_exact(),
-        Shape::Pairs(key, _) => key.grade(mode.value()).is_exact(),
-        Shape::MapSkip(key, _) => key.grade(mode.key().buffer()).is_exact(),
-        Shape::MapSet(key, value) => {
-            key.grade(mode.key()).is_exact() && value.grade(mode.value()).is_exact()
-        }
+        Shape::Set(_) => parts.grade.is_exact(),
+        Shape::OneOrManySet(_) => parts.grade.is_exact(),
+        Shape::KeyMap(_, _) => parts.grade.is_exact(),
+        Shape::Pairs(_, _) => parts.grade.is_exact(),
+        Shape::MapSkip(_, _) => parts.grade.is_exact(),
+        Shape::MapSet(_, _) => parts.grade.is_exact() && parts.second.is_exact(),
         _ => true,
     }
 }

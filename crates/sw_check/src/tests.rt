@@ -186,6 +186,43 @@ fn build(alloc: Global, words: &str) -> Result<Option<Expr>, AllocError> {
     Ok(stack.pop())
 }
 
+/// `DefaultOnNull` over `DefaultOnError` over two options, so many times, around the leaf of that name: each passes
+/// on the kinds of its first part, and the first of three asks for them.
+fn deep(alloc: Global, turns: usize, word: &str) -> Result<Option<Expr>, AllocError> {
+    let Some(mut expr) = leaf(word) else {
+        return Ok(None);
+    };
+    for _ in 0..turns {
+        let Some(other) = leaf("null") else {
+            return Ok(None);
+        };
+        expr = over(alloc, "pick_two", expr, other)?;
+        expr = around(alloc, "default", expr)?;
+        expr = around(alloc, "default_null", expr)?;
+    }
+    Ok(Some(expr))
+}
+
+/// Whether the deep expression is blamed by that rule below so many steps, or sound where there is none.
+fn deep_answers(
+    alloc: Global,
+    turns: usize,
+    word: &str,
+    wanted: Option<Rule>,
+    steps: usize,
+) -> bool {
+    let Ok(Some(expr)) = deep(alloc, turns, word) else {
+        return false;
+    };
+    match check(alloc, &expr, value()) {
+        Ok(_) => wanted.is_none(),
+        Err(CheckFail::Blame(blame)) => {
+            wanted == Some(blame.rule) && blame.path.steps().len() == steps
+        }
+        Err(CheckFail::Memory) => false,
+    }
+}
+
 /// The blame as text.
 fn blame_text(alloc: Global, blame: &Blame) -> Result<String, AllocError> {
     let mut text = String::new(alloc);
@@ -339,6 +376,20 @@ fn the_mode_decides(rt: HostRuntime) {
         ("time set vec null option tuple", value(), "S5 at /0/0"),
     ] {
         assert!(rt; answers(rt.alloc(), words, mode, wanted), "{words}");
+    }
+}
+
+#[test]
+fn thousands_of_levels_are_checked(rt: HostRuntime) {
+    for (word, wanted, steps) in [
+        ("number", None, 0),
+        ("text_or_empty", Some(Rule::S7), 3000),
+        ("null", Some(Rule::S4), 0),
+    ] {
+        assert!(rt;
+            deep_answers(rt.alloc(), 1000, word, wanted, steps),
+            "{word}"
+        );
     }
 }
 

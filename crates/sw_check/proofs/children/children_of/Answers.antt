@@ -1,7 +1,7 @@
 use Rattle.std.proofs.Common.{arith, ◌≤◌, ◌∙◌, ap, length}
 use Rattle.sw_check.specs.Form.{choice}
 use Rattle.sw_check.specs.Checked.{one}
-use Rattle.sw_check.proofs.Parts.{first_checked}
+use Rattle.sw_check.proofs.Choices.{first_checked}
 use Rattle.sw_check.proofs.children.children_of.Goals as goal
 
 pub returns-in-PickFirst-clause-checked : goal.returns-in-PickFirst-clause-checked
