@@ -1,22 +1,24 @@
 -- What the reader keeps follows the machine.
-use Rattle.std.proofs.Common.{◌≡◌, ℕ, suc, ◌+◌, ◌*◌, ◌%◌, add-zero, List, [], ◌∷◌, ◌++◌, length, length-append, Option, Some, None, Bool, true, false, cond, refl, ap, sym, ◌∙◌, arith}
+use Rattle.std.proofs.Common.{◌≡◌, ℕ, ℤ, suc, ◌+◌, ◌*◌, ◌%◌, add-zero, List, [], ◌∷◌, ◌++◌, length, length-append, Option, Some, None, Bool, true, false, cond, refl, ap, sym, ◌∙◌, arith}
 use Rattle.std.specs.Prelude.{option_map, nat_lt}
 use Rattle.std.specs.Option.{option_or}
 use Rattle.sw_tree.specs.Tree.{Tree, trees, entries, turns}
+use Rattle.sw_tree.specs.Faults as faulted
+use Rattle.sw_tree.specs.Faults.{first, number_fault, level_fault}
 use Rattle.sw_tree.specs.Tree as tree
 use Rattle.sw_tree.specs.Builder.{Built, Frame, added, added_to, longer, closed, CanClose}
 use Rattle.sw_json.specs.Token.{Quote, Token}
 use Rattle.sw_json.specs.Raw.{Raw, RawItems, no_items, item, RawEntries, no_entries, entry}
 use Rattle.sw_json.specs.Raw as raw
 use Rattle.sw_json.specs.Quoted.{has_escape}
-use Rattle.sw_json.specs.Number.{is_whole}
 use Rattle.sw_json.specs.Machine.{Level, in_list, in_map, State, value, fresh_list, fresh_map, name, colon, after, push, enter, step_value, step_fresh_list, step_fresh_map, step_name, step_colon, step_after, step, root}
 use Rattle.sw_json.specs.Place.{place_value, place_step, place_end}
-use Rattle.sw_json.specs.Faults.{faults, items_faults, entries_faults, first, whole, wholes, whole_entries, open_fault, number_fault}
+use Rattle.sw_json.specs.Shape.{shape_of, items_shape, entries_shape}
 use Rattle.sw_json.specs.Escaped.{quote_escaped, escaped, items_escaped, entries_escaped}
-use Rattle.sw_json.specs.Building.{effect, fault_of}
-use Rattle.sw_json.specs.declared.fault.Fault.{Fault}
-use Rattle.sw_json.specs.declared.fault.Fault.TheVariants.{NotWhole, TooDeep}
+use Rattle.sw_json.specs.Building.{effect, fault_of, number_fault_of}
+use Rattle.sw_tree.specs.declared.fail.WireError.{WireError}
+use Rattle.sw_tree.specs.declared.fail.WireError.TheVariants.{TooDeep}
+use Rattle.sw_tree.specs.Number.{key_number}
 use Rattle.sw_json.specs.declared.place.Place.{Place}
 use Rattle.sw_json.specs.declared.place.Place.TheVariants.{Value, FreshList, FreshMap, Name, Colon, After}
 use Rattle.sw_json.specs.declared.place.Open.{Open}
@@ -113,6 +115,26 @@ depth_is (after r ls) = length-opens ls
 
 -- ---- the nodes that are built
 
+-- the tree of a raw tree, of items and of entries
+abbrev pub whole : Raw → Tree
+whole r = faulted.whole (shape_of r)
+
+abbrev wholes : RawItems → List Tree
+wholes no_items = []
+wholes (item r rs) = whole r ∷ wholes rs
+
+abbrev whole_entries : RawEntries → List (Tree × Tree)
+whole_entries no_entries = []
+whole_entries (entry q r es) = (tree.text q.text, whole r) ∷ whole_entries es
+
+trees-wholes : (rs : RawItems) → faulted.wholes (items_shape rs) ≡ trees (wholes rs)
+trees-wholes no_items = refl
+trees-wholes (item r rs) = ap (tree.tree (whole r)) (trees-wholes rs)
+
+entries-wholes : (es : RawEntries) → faulted.whole_entries (entries_shape es) ≡ entries (whole_entries es)
+entries-wholes no_entries = refl
+entries-wholes (entry q r es) = ap (tree.entry (tree.text q.text) (whole r)) (entries-wholes es)
+
 -- the keys and values by turns
 abbrev flat : List (Tree × Tree) → List Tree
 flat [] = []
@@ -200,12 +222,12 @@ core_colon input n at es q ls t next h = absurd (none_some h)
 
 closes_list : (input : List ℕ) (n at : ℕ) (r : Raw) (rs : RawItems) (ls : List Level) → base input n (after (raw.list at (push rs r)) ls) ≡ closed (base input n (after r (in_list at rs ∷ ls)))
 closes_list input n at r rs ls =
-    same_added input n (frames_of ls) (record { is_map = false; children = wholes rs ++ whole r ∷ [] } ∷ frames_of ls) (frames_of ls) _ _ (ap (λ (ts : List Tree). tree.list (trees ts)) (wholes-push rs r))
+    same_added input n (frames_of ls) (record { is_map = false; children = wholes rs ++ whole r ∷ [] } ∷ frames_of ls) (frames_of ls) _ _ (ap tree.list (trees-wholes (push rs r) ∙ ap trees (wholes-push rs r)))
 
 closes_map : (input : List ℕ) (n at : ℕ) (r : Raw) (es : RawEntries) (q : Quote) (ls : List Level) → base input n (after (raw.map at (enter es q r)) ls) ≡ closed (base input n (after r (in_map at es q ∷ ls)))
 closes_map input n at r es q ls =
     same_added input n (frames_of ls) (record { is_map = true; children = (flat (whole_entries es) ++ tree.text q.text ∷ []) ++ whole r ∷ [] } ∷ frames_of ls) (frames_of ls) _ _
-    (ap (λ (x : List (Tree × Tree)). tree.map (entries x)) (whole_entries-enter es q r ∙ sym (turns-flat (whole_entries es) (tree.text q.text) (whole r))))
+    (ap tree.map (entries-wholes (enter es q r) ∙ ap entries (whole_entries-enter es q r ∙ sym (turns-flat (whole_entries es) (tree.text q.text) (whole r)))))
 
 enters : (input : List ℕ) (n at : ℕ) (r : Raw) (es : RawEntries) (q : Quote) (ls : List Level) → base input n (name at (enter es q r) ls) ≡ base input n (after r (in_map at es q ∷ ls))
 enters input n at r es q ls =
@@ -407,45 +429,58 @@ root_built input s r h = base_whole input (side_of s) s r h
 
 -- ---- the faults
 
-items_faults-push : (d : ℕ) (rs : RawItems) (r : Raw) (k : List Fault) → items_faults d (push rs r) k ≡ items_faults d rs (faults d r k)
+abbrev pub faults : ℕ → Raw → List WireError → List WireError
+faults d r k = faulted.faults d (shape_of r) k
+
+abbrev items_faults : ℕ → RawItems → List WireError → List WireError
+items_faults d rs k = faulted.items_faults d (items_shape rs) k
+
+abbrev entries_faults : ℕ → RawEntries → List WireError → List WireError
+entries_faults d es k = faulted.entries_faults d (entries_shape es) k
+
+items_faults-push : (d : ℕ) (rs : RawItems) (r : Raw) (k : List WireError) → items_faults d (push rs r) k ≡ items_faults d rs (faults d r k)
 items_faults-push d no_items r k = refl
-items_faults-push d (item q qs) r k = ap (faults d q) (items_faults-push d qs r k)
+items_faults-push d (item q qs) r k = ap (λ x. faults d q x) (items_faults-push d qs r k)
 
-entries_faults-enter : (d : ℕ) (es : RawEntries) (q : Quote) (r : Raw) (k : List Fault) → entries_faults d (enter es q r) k ≡ entries_faults d es (faults d r k)
+entries_faults-enter : (d : ℕ) (es : RawEntries) (q : Quote) (r : Raw) (k : List WireError) → entries_faults d (enter es q r) k ≡ entries_faults d es (faults d r k)
 entries_faults-enter d no_entries q r k = refl
-entries_faults-enter d (entry j p es) q r k = ap (faults d p) (entries_faults-enter d es q r k)
+entries_faults-enter d (entry j p es) q r k = ap (λ x. faults d p x) (entries_faults-enter d es q r k)
 
-abbrev pub level_faults : List Level → List Fault → List Fault
+abbrev pub level_faults : List Level → List WireError → List WireError
 level_faults [] k = k
-level_faults (in_list at rs ∷ ls) k = level_faults ls (open_fault (length ls) at (items_faults (suc (length ls)) rs k))
-level_faults (in_map at es q ∷ ls) k = level_faults ls (open_fault (length ls) at (entries_faults (suc (length ls)) es k))
+level_faults (in_list at rs ∷ ls) k = level_faults ls (level_fault (length ls) at (items_faults (suc (length ls)) rs k))
+level_faults (in_map at es q ∷ ls) k = level_faults ls (level_fault (length ls) at (entries_faults (suc (length ls)) es k))
 
 -- the faults so far, and then the rest
-abbrev pub found_faults : State → List Fault → List Fault
+abbrev pub found_faults : State → List WireError → List WireError
 found_faults (value ls) k = level_faults ls k
-found_faults (fresh_list at ls) k = level_faults ls (open_fault (length ls) at k)
-found_faults (fresh_map at ls) k = level_faults ls (open_fault (length ls) at k)
-found_faults (name at es ls) k = level_faults ls (open_fault (length ls) at (entries_faults (suc (length ls)) es k))
-found_faults (colon at es q ls) k = level_faults ls (open_fault (length ls) at (entries_faults (suc (length ls)) es k))
+found_faults (fresh_list at ls) k = level_faults ls (level_fault (length ls) at k)
+found_faults (fresh_map at ls) k = level_faults ls (level_fault (length ls) at k)
+found_faults (name at es ls) k = level_faults ls (level_fault (length ls) at (entries_faults (suc (length ls)) es k))
+found_faults (colon at es q ls) k = level_faults ls (level_fault (length ls) at (entries_faults (suc (length ls)) es k))
 found_faults (after r ls) k = level_faults ls (faults (length ls) r k)
 
-abbrev token_faults : ℕ → Token → List Fault → List Fault
-token_faults depth (Token.number at s) k = number_fault at s k
-token_faults depth (Token.open_list at) k = open_fault depth at k
-token_faults depth (Token.open_map at) k = open_fault depth at k
+abbrev token_faults : ℕ → Token → List WireError → List WireError
+token_faults depth (Token.number at s) k = number_fault at (key_number s) k
+token_faults depth (Token.open_list at) k = level_fault depth at k
+token_faults depth (Token.open_map at) k = level_fault depth at k
 token_faults depth t k = k
 
-first_if : (b : Bool) (f : Fault) (k : List Fault) → first (cond b k (f ∷ k)) ≡ option_or (cond b None (Some f)) (first k)
+first_if : (b : Bool) (f : WireError) (k : List WireError) → first (cond b k (f ∷ k)) ≡ option_or (cond b None (Some f)) (first k)
 first_if true f k = refl
 first_if false f k = refl
 
-first_of : (depth : ℕ) (t : Token) (k : List Fault) → first (token_faults depth t k) ≡ option_or (fault_of depth t) (first k)
-first_of depth (Token.number at s) k = first_if (is_whole s) (NotWhole at) k
+first_number : (at : ℕ) (o : Option ℤ) (k : List WireError) → first (number_fault at o k) ≡ option_or (number_fault_of at o) (first k)
+first_number at (Some n) k = refl
+first_number at None k = refl
+
+first_of : (depth : ℕ) (t : Token) (k : List WireError) → first (token_faults depth t k) ≡ option_or (fault_of depth t) (first k)
+first_of depth (Token.number at s) k = first_number at (key_number s) k
 first_of depth (Token.open_list at) k = first_if (nat_lt depth 128) (TooDeep at) k
 first_of depth (Token.open_map at) k = first_if (nat_lt depth 128) (TooDeep at) k
 first_of depth t k = refl
 
-faults_value : (ls : List Level) (t : Token) (next : State) (k : List Fault) → step_value ls t ≡ Some next → found_faults next k ≡ level_faults ls (token_faults (length ls) t k)
+faults_value : (ls : List Level) (t : Token) (next : State) (k : List WireError) → step_value ls t ≡ Some next → found_faults next k ≡ level_faults ls (token_faults (length ls) t k)
 faults_value ls (Token.null at) next k h = ap (λ s. found_faults s k) (sym (the_some h))
 faults_value ls (Token.truth at b) next k h = ap (λ s. found_faults s k) (sym (the_some h))
 faults_value ls (Token.number at x) next k h = ap (λ s. found_faults s k) (sym (the_some h))
@@ -454,39 +489,39 @@ faults_value ls (Token.open_list at) next k h = ap (λ s. found_faults s k) (sym
 faults_value ls (Token.open_map at) next k h = ap (λ s. found_faults s k) (sym (the_some h))
 faults_value ls t next k h = absurd (none_some h)
 
-faults_fresh_list : (at : ℕ) (ls : List Level) (t : Token) (next : State) (k : List Fault) → step_fresh_list at ls t ≡ Some next
-    → found_faults next k ≡ level_faults ls (open_fault (length ls) at (token_faults (suc (length ls)) t k))
+faults_fresh_list : (at : ℕ) (ls : List Level) (t : Token) (next : State) (k : List WireError) → step_fresh_list at ls t ≡ Some next
+    → found_faults next k ≡ level_faults ls (level_fault (length ls) at (token_faults (suc (length ls)) t k))
 faults_fresh_list at ls Token.close_list next k h = ap (λ s. found_faults s k) (sym (the_some h))
 faults_fresh_list at ls t next k h = faults_value (in_list at no_items ∷ ls) t next k h
 
-faults_name : (at : ℕ) (es : RawEntries) (ls : List Level) (t : Token) (next : State) (k : List Fault) → step_name at es ls t ≡ Some next
-    → found_faults next k ≡ level_faults ls (open_fault (length ls) at (entries_faults (suc (length ls)) es (token_faults (suc (length ls)) t k)))
+faults_name : (at : ℕ) (es : RawEntries) (ls : List Level) (t : Token) (next : State) (k : List WireError) → step_name at es ls t ≡ Some next
+    → found_faults next k ≡ level_faults ls (level_fault (length ls) at (entries_faults (suc (length ls)) es (token_faults (suc (length ls)) t k)))
 faults_name at es ls (Token.text q) next k h = ap (λ s. found_faults s k) (sym (the_some h))
 faults_name at es ls t next k h = absurd (none_some h)
 
-faults_fresh_map : (at : ℕ) (ls : List Level) (t : Token) (next : State) (k : List Fault) → step_fresh_map at ls t ≡ Some next
-    → found_faults next k ≡ level_faults ls (open_fault (length ls) at (token_faults (suc (length ls)) t k))
+faults_fresh_map : (at : ℕ) (ls : List Level) (t : Token) (next : State) (k : List WireError) → step_fresh_map at ls t ≡ Some next
+    → found_faults next k ≡ level_faults ls (level_fault (length ls) at (token_faults (suc (length ls)) t k))
 faults_fresh_map at ls Token.close_map next k h = ap (λ s. found_faults s k) (sym (the_some h))
 faults_fresh_map at ls t next k h = faults_name at no_entries ls t next k h
 
-faults_colon : (at : ℕ) (es : RawEntries) (q : Quote) (ls : List Level) (t : Token) (next : State) (k : List Fault) → step_colon at es q ls t ≡ Some next
-    → found_faults next k ≡ level_faults ls (open_fault (length ls) at (entries_faults (suc (length ls)) es (token_faults (suc (length ls)) t k)))
+faults_colon : (at : ℕ) (es : RawEntries) (q : Quote) (ls : List Level) (t : Token) (next : State) (k : List WireError) → step_colon at es q ls t ≡ Some next
+    → found_faults next k ≡ level_faults ls (level_fault (length ls) at (entries_faults (suc (length ls)) es (token_faults (suc (length ls)) t k)))
 faults_colon at es q ls Token.colon next k h = ap (λ s. found_faults s k) (sym (the_some h))
 faults_colon at es q ls t next k h = absurd (none_some h)
 
-faults_after : (r : Raw) (l : Level) (ls : List Level) (t : Token) (next : State) (k : List Fault) → step_after r l ls t ≡ Some next
+faults_after : (r : Raw) (l : Level) (ls : List Level) (t : Token) (next : State) (k : List WireError) → step_after r l ls t ≡ Some next
     → found_faults next k ≡ level_faults (l ∷ ls) (faults (suc (length ls)) r (token_faults (suc (length ls)) t k))
 faults_after r (in_list at rs) ls Token.close_list next k h =
-    ap (λ s. found_faults s k) (sym (the_some h)) ∙ ap (λ x. level_faults ls (open_fault (length ls) at x)) (items_faults-push (suc (length ls)) rs r k)
+    ap (λ s. found_faults s k) (sym (the_some h)) ∙ ap (λ x. level_faults ls (level_fault (length ls) at x)) (items_faults-push (suc (length ls)) rs r k)
 faults_after r (in_list at rs) ls Token.comma next k h =
-    ap (λ s. found_faults s k) (sym (the_some h)) ∙ ap (λ x. level_faults ls (open_fault (length ls) at x)) (items_faults-push (suc (length ls)) rs r k)
+    ap (λ s. found_faults s k) (sym (the_some h)) ∙ ap (λ x. level_faults ls (level_fault (length ls) at x)) (items_faults-push (suc (length ls)) rs r k)
 faults_after r (in_map at es q) ls Token.close_map next k h =
-    ap (λ s. found_faults s k) (sym (the_some h)) ∙ ap (λ x. level_faults ls (open_fault (length ls) at x)) (entries_faults-enter (suc (length ls)) es q r k)
+    ap (λ s. found_faults s k) (sym (the_some h)) ∙ ap (λ x. level_faults ls (level_fault (length ls) at x)) (entries_faults-enter (suc (length ls)) es q r k)
 faults_after r (in_map at es q) ls Token.comma next k h =
-    ap (λ s. found_faults s k) (sym (the_some h)) ∙ ap (λ x. level_faults ls (open_fault (length ls) at x)) (entries_faults-enter (suc (length ls)) es q r k)
+    ap (λ s. found_faults s k) (sym (the_some h)) ∙ ap (λ x. level_faults ls (level_fault (length ls) at x)) (entries_faults-enter (suc (length ls)) es q r k)
 faults_after r l ls t next k h = absurd (none_some h)
 
-faults_step : (s : State) (t : Token) (next : State) (k : List Fault) → step s t ≡ Some next → found_faults next k ≡ found_faults s (token_faults (depth_of s) t k)
+faults_step : (s : State) (t : Token) (next : State) (k : List WireError) → step s t ≡ Some next → found_faults next k ≡ found_faults s (token_faults (depth_of s) t k)
 faults_step (value ls) t next k h = faults_value ls t next k h
 faults_step (fresh_list at ls) t next k h = faults_fresh_list at ls t next k h
 faults_step (fresh_map at ls) t next k h = faults_fresh_map at ls t next k h
@@ -495,25 +530,25 @@ faults_step (colon at es q ls) t next k h = faults_colon at es q ls t next k h
 faults_step (after r []) t next k h = absurd (none_some h)
 faults_step (after r (l ∷ ls)) t next k h = faults_after r l ls t next k h
 
-option_or-assoc : (a b c : Option Fault) → option_or (option_or a b) c ≡ option_or a (option_or b c)
+option_or-assoc : (a b c : Option WireError) → option_or (option_or a b) c ≡ option_or a (option_or b c)
 option_or-assoc None b c = refl
 option_or-assoc (Some f) b c = refl
 
 -- the first fault so far
-pub record IsFirst (s : State) (fault : Option Fault) : Type 0 where
-  pub leads : (k : List Fault) → first (found_faults s k) ≡ option_or fault (first k)
+pub record IsFirst (s : State) (fault : Option WireError) : Type 0 where
+  pub leads : (k : List WireError) → first (found_faults s k) ≡ option_or fault (first k)
 
-pub first_step : (s : State) (t : Token) (next : State) (depth : ℕ) (fault : Option Fault) → step s t ≡ Some next → depth_of s ≡ depth → IsFirst s fault → IsFirst next (option_or fault (fault_of depth t))
+pub first_step : (s : State) (t : Token) (next : State) (depth : ℕ) (fault : Option WireError) → step s t ≡ Some next → depth_of s ≡ depth → IsFirst s fault → IsFirst next (option_or fault (fault_of depth t))
 first_step s t next depth fault h d f = record {
   leads = λ k. ap first (faults_step s t next k h) ∙ f.leads (token_faults (depth_of s) t k)
       ∙ ap (λ x. option_or fault x) (first_of (depth_of s) t k ∙ ap (λ n. option_or (fault_of n t) (first k)) d)
       ∙ sym (option_or-assoc fault (fault_of depth t) (first k));
 }
 
-root_faults : (s : State) (r : Raw) (k : List Fault) → root s ≡ Some r → found_faults s k ≡ faults 0 r k
+root_faults : (s : State) (r : Raw) (k : List WireError) → root s ≡ Some r → found_faults s k ≡ faults 0 r k
 root_faults (after q []) r k h = ap (λ x. faults 0 x k) (the_some h)
 root_faults s r k h = absurd (none_some h)
 
-pub root_first : (s : State) (r : Raw) (fault : Option Fault) → root s ≡ Some r → IsFirst s fault → first (faults 0 r []) ≡ fault
+pub root_first : (s : State) (r : Raw) (fault : Option WireError) → root s ≡ Some r → IsFirst s fault → first (faults 0 r []) ≡ fault
 root_first s r None h f = sym (ap first (root_faults s r [] h)) ∙ f.leads []
 root_first s r (Some e) h f = sym (ap first (root_faults s r [] h)) ∙ f.leads []

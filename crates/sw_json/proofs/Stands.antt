@@ -16,21 +16,20 @@ use Rattle.sw_json.specs.Grammar.{skip, Front}
 use Rattle.sw_json.specs.Lexing.{is_empty, lexeme, next_token}
 use Rattle.sw_json.specs.Machine.{State, value, step, root}
 use Rattle.sw_json.specs.Place.{place_step, place_end, Leads}
-use Rattle.sw_json.specs.Faults.{faults, first, whole}
+use Rattle.sw_tree.specs.Faults.{first, judged_by}
 use Rattle.sw_json.specs.Building.{effect, fault_of, Fits, CanBuild, Builds}
-use Rattle.sw_json.specs.Spelled.{HasEscaped, completed, raw_of, error_of, judged, judged_by, spelled}
-use Rattle.sw_json.specs.declared.fault.Fault.{Fault}
+use Rattle.sw_json.specs.Spelled.{HasEscaped, completed, raw_of, judged, spelled}
 use Rattle.sw_json.specs.declared.place.Place.{Place}
 use Rattle.sw_json.specs.declared.place.Place.TheVariants.{Value}
 use Rattle.sw_json.specs.declared.place.Open.{Open}
 use Rattle.sw_json.specs.Laws.Fronts.{split}
 use Rattle.sw_json.specs.Laws.Lexemes.{taken}
 use Rattle.sw_json.specs.Laws.Completion as completion
-use Rattle.sw_json.proofs.Standing.{the_some, none_or_some, is_none, shape, shape_is, no_end, is_end, depth_of, depth_is, built, levels, input_is, root_side, no_root, list_can_close, map_can_close, root_built, built_step, IsFirst, first_step, root_first}
+use Rattle.sw_json.proofs.Standing.{the_some, none_or_some, is_none, shape, shape_is, no_end, is_end, depth_of, depth_is, built, levels, input_is, root_side, no_root, list_can_close, map_can_close, root_built, built_step, faults, whole, IsFirst, first_step, root_first}
 
 -- The state that the bytes so far lead to, of which the code keeps the place, what is open, the first fault, and as long as there is none what is built.
 -- All bytes spell what the state is completed to by what is left.
-pub record Stands (bytes : List ℕ) (place : Place) (opens : List Open) (fault : Option Fault) (b : Built) (rest : List ℕ) : Type 0 where
+pub record Stands (bytes : List ℕ) (place : Place) (opens : List Open) (fault : Option WireError) (b : Built) (rest : List ℕ) : Type 0 where
   pub state : State
   pub shape_at : shape state ≡ (place, opens)
   pub leads : IsFirst state fault
@@ -151,19 +150,19 @@ some_judged : (bytes : List ℕ) (r : Raw) → raw_of 0 bytes ≡ Some r → spe
 unfolding spelled
 some_judged bytes r h = ap judged h
 
-judged_faulty : (fs : List Fault) (t : Tree) (f : Fault) → first fs ≡ Some f → judged_by fs t ≡ Err (error_of f)
+judged_faulty : (fs : List WireError) (t : Tree) (f : WireError) → first fs ≡ Some f → judged_by fs t ≡ Err f
 judged_faulty [] t f h = cc
-judged_faulty (g ∷ fs) t f h = ap (λ x. Err (error_of x)) (the_some h)
+judged_faulty (g ∷ fs) t f h = ap (λ x. Err x) (the_some h)
 
-judged_good : (fs : List Fault) (t : Tree) → first fs ≡ None → judged_by fs t ≡ Ok t
+judged_good : (fs : List WireError) (t : Tree) → first fs ≡ None → judged_by fs t ≡ Ok t
 judged_good [] t h = refl
 judged_good (g ∷ fs) t h = cc
 
-no_fault : (a b : Option Fault) → option_or a b ≡ None → a ≡ None
+no_fault : (a b : Option WireError) → option_or a b ≡ None → a ≡ None
 no_fault None b h = refl
 no_fault (Some f) b h = cc
 
-module _ (bytes : List ℕ) (place : Place) (opens : List Open) (fault : Option Fault) (b : Built) (rest : List ℕ) (was : Stands bytes place opens fault b rest) where
+module _ (bytes : List ℕ) (place : Place) (opens : List Open) (fault : Option WireError) (b : Built) (rest : List ℕ) (was : Stands bytes place opens fault b rest) where
   same_step : (t : Token) → place_step (shape was.state).0 (shape was.state).1 t ≡ place_step place opens t
   same_step t = ap (λ (x : Place × List Open). place_step x.0 x.1 t) was.shape_at
 
@@ -202,7 +201,7 @@ module _ (bytes : List ℕ) (place : Place) (opens : List Open) (fault : Option 
         fits = fits_at bytes before (skip rest) behind (0 + length bytes - length (skip rest)) was.state s.0 t before_ahead offset n f s.1;
       })
 
-  pub turn : (t : Token) (behind : List ℕ) (next : Place) (later : List Open) (found : Option Fault) (c : Built) → next_token (0 + length bytes) rest ≡ Some (t, behind) → place_step place opens t ≡ Some (next, later)
+  pub turn : (t : Token) (behind : List ℕ) (next : Place) (later : List Open) (found : Option WireError) (c : Built) → next_token (0 + length bytes) rest ≡ Some (t, behind) → place_step place opens t ≡ Some (next, later)
       → Builds fault found (length opens) t b c → Stands bytes next later found c behind
   turn t behind next later found c h e k =
       let s = stepped t next later e in
@@ -211,7 +210,7 @@ module _ (bytes : List ℕ) (place : Place) (opens : List Open) (fault : Option 
       record {
         state = s.0;
         shape_at = s.2;
-        leads = subst (λ (x : Option Fault). IsFirst s.0 x) (sym k.fault) (first_step was.state t s.0 (length opens) fault s.1 depth_at was.leads);
+        leads = subst (λ (x : Option WireError). IsFirst s.0 x) (sym k.fault) (first_step was.state t s.0 (length opens) fault s.1 depth_at was.leads);
         built_is = λ z. k.built z ∙ ap (effect t) (was.built_is (no_fault fault (fault_of (length opens) t) (sym k.fault ∙ z))) ∙ sym (built_step bytes was.state t s.0 s.1);
         read = before ++ f.0;
         parts = before_ahead ∙ ap (λ (x : List ℕ). before ++ x) f.1 ∙ sym (append_assoc before f.0 behind);
@@ -232,7 +231,7 @@ module _ (bytes : List ℕ) (place : Place) (opens : List Open) (fault : Option 
   finished : skip rest ≡ [] → place_end place opens ≡ true → (r : Raw) × (raw_of 0 bytes ≡ Some r) × (root was.state ≡ Some r)
   finished h e = let n = is_end was.state (same_end ∙ e) in (n.0, was.spells ∙ completion.ended was.fuel (0 + length bytes) was.state rest h ∙ n.1, n.1)
 
-  pub faulty : (f : Fault) → skip rest ≡ [] → place_end place opens ≡ true → fault ≡ Some f → spelled bytes ≡ Err (error_of f)
+  pub faulty : (f : WireError) → skip rest ≡ [] → place_end place opens ≡ true → fault ≡ Some f → spelled bytes ≡ Err f
   faulty f h e z =
       let n = finished h e in
       some_judged bytes n.0 n.1 ∙ judged_faulty (faults 0 n.0 []) (whole n.0) f (root_first was.state n.0 fault n.2 was.leads ∙ z)

@@ -1,15 +1,15 @@
 -- What a token does to the document that is built.
-use Rattle.std.specs.Prelude.{◌≡◌, ℕ, ◌+◌, ◌≤◌, ◌<◌, ◌^◌, length, slice_range, Option, Some, None, nat_lt, if◌then◌else◌, true, false}
+use Rattle.std.specs.Prelude.{◌≡◌, ℕ, ℤ, ◌+◌, ◌≤◌, ◌<◌, ◌^◌, length, slice_range, Option, Some, None, nat_lt, if◌then◌else◌, true, false}
 use Rattle.std.specs.Option.{option_or}
 use Rattle.std.specs.Str.{IsUtf8}
 use Rattle.sw_tree.specs.Tree as tree
 use Rattle.sw_tree.specs.Builder.{Built, added, longer, opened, closed, CanClose}
 use Rattle.sw_json.specs.Token.{Quote, Token}
 use Rattle.sw_json.specs.Quoted.{has_escape}
-use Rattle.sw_tree.specs.Number.{int_of}
-use Rattle.sw_json.specs.Number.{is_whole}
-use Rattle.sw_json.specs.declared.fault.Fault.{Fault}
-use Rattle.sw_json.specs.declared.fault.Fault.TheVariants.{NotWhole, TooDeep}
+use Rattle.sw_tree.specs.Number.{key_number}
+use Rattle.sw_tree.specs.Faults.{int_of}
+use Rattle.sw_tree.specs.declared.fail.WireError.{WireError}
+use Rattle.sw_tree.specs.declared.fail.WireError.TheVariants.{NotWhole, TooDeep}
 
 -- a text is copied beside the input where its spelling has an escape
 abbrev pub effect_text : Quote → Built → Built
@@ -19,7 +19,7 @@ effect_text q b = if has_escape q.spelling then added (longer b (length q.text))
 abbrev pub effect : Token → Built → Built
 effect (Token.null at) b = added b tree.null
 effect (Token.truth at v) b = added b (tree.truth v)
-effect (Token.number at s) b = added b (tree.int (int_of s))
+effect (Token.number at s) b = added b (tree.int (int_of (key_number s)))
 effect (Token.text q) b = effect_text q b
 effect (Token.open_list at) b = opened b false
 effect Token.close_list b = closed b
@@ -28,12 +28,16 @@ effect Token.close_map b = closed b
 effect Token.comma b = b
 effect Token.colon b = b
 
-abbrev pub open_fault_of : ℕ → ℕ → Option Fault
+abbrev pub number_fault_of : ℕ → Option ℤ → Option WireError
+number_fault_of at (Some n) = None
+number_fault_of at None = Some (NotWhole at)
+
+abbrev pub open_fault_of : ℕ → ℕ → Option WireError
 open_fault_of depth at = if nat_lt depth 128 then None else Some (TooDeep at)
 
 -- the fault of the token below so many levels
-abbrev pub fault_of : ℕ → Token → Option Fault
-fault_of depth (Token.number at s) = if is_whole s then None else Some (NotWhole at)
+abbrev pub fault_of : ℕ → Token → Option WireError
+fault_of depth (Token.number at s) = number_fault_of at (key_number s)
 fault_of depth (Token.open_list at) = open_fault_of depth at
 fault_of depth (Token.open_map at) = open_fault_of depth at
 fault_of depth t = None
@@ -58,6 +62,6 @@ pub record CanBuild (depth : ℕ) (t : Token) (b : Built) : Type 0 where
   pub fits : Fits t b
 
 -- The first fault with that of the token; as long as there is none, the token is built.
-pub record Builds (before after : Option Fault) (depth : ℕ) (t : Token) (old new : Built) : Type 0 where
+pub record Builds (before after : Option WireError) (depth : ℕ) (t : Token) (old new : Built) : Type 0 where
   pub fault : after ≡ option_or before (fault_of depth t)
   pub built : after ≡ None → new ≡ effect t old

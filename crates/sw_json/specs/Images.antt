@@ -1,4 +1,5 @@
--- Which trees are images in JSON: there is no byte string, and each key is a text.
+-- Which trees are images in JSON: there is no byte string, and each key is a text; and which have no image.
+use Rattle.std.specs.Prelude.{◌⊎◌}
 use Rattle.std.specs.Str.{IsUtf8}
 use Rattle.sw_tree.specs.NumberLaws.{IsInRange}
 use Rattle.sw_tree.specs.Tree.{Tree, null, truth, int, text, bytes, list, map, Trees, no_trees, tree, Entries, no_entries, entry}
@@ -26,3 +27,32 @@ abbrev mutual
   pub AreImageEntries : Entries → Type 0
   AreImageEntries no_entries = Unit {0}
   AreImageEntries (entry key value es) = IsKey key × IsImage value × AreImageEntries es
+
+-- a key of a kind that JSON has no image of: null, a byte string, a list or a map
+abbrev pub IsOtherKey : Tree → Type 0
+IsOtherKey null = Unit {0}
+IsOtherKey (truth b) = ⊥
+IsOtherKey (int n) = ⊥
+IsOtherKey (text s) = ⊥
+IsOtherKey (bytes s) = Unit {0}
+IsOtherKey (list ts) = Unit {0}
+IsOtherKey (map es) = Unit {0}
+
+-- some key of a map in the tree is of such a kind
+abbrev mutual
+  pub HasOtherKey : Tree → Type 0
+  HasOtherKey null = ⊥
+  HasOtherKey (truth b) = ⊥
+  HasOtherKey (int n) = ⊥
+  HasOtherKey (text s) = ⊥
+  HasOtherKey (bytes s) = ⊥
+  HasOtherKey (list ts) = HaveOtherKey ts
+  HasOtherKey (map es) = EntriesHaveOtherKey es
+
+  pub HaveOtherKey : Trees → Type 0
+  HaveOtherKey no_trees = ⊥
+  HaveOtherKey (tree t ts) = HasOtherKey t ⊎ HaveOtherKey ts
+
+  pub EntriesHaveOtherKey : Entries → Type 0
+  EntriesHaveOtherKey no_entries = ⊥
+  EntriesHaveOtherKey (entry key value es) = IsOtherKey key ⊎ (HasOtherKey value ⊎ EntriesHaveOtherKey es)

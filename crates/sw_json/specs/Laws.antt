@@ -9,3 +9,6 @@ pub mod PrintedTexts
 pub mod PrintedNumbers
 pub mod Printed
 pub mod PrintedImages
+pub mod PrintedUtf8
+pub mod WholeNumbers
+pub mod Keys

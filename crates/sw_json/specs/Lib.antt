@@ -9,8 +9,7 @@ pub mod Unescaping
 pub mod Grammar
 pub mod Lexing
 pub mod Machine
-pub mod Number
-pub mod Faults
+pub mod Shape
 pub mod Escaped
 pub mod Spelled
 pub mod Text

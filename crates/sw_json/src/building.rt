@@ -4,12 +4,12 @@ ghost use Rattle.std.specs.Prelude.{◌≡◌, None, IfOk};
 ghost use Rattle.sw_json.specs.Lexeme.{token_of, TellsEscape};
 ghost use Rattle.sw_json.specs.Building.{CanBuild, Builds};
 
-use crate::fault::Fault;
 use crate::lexer::Lexeme;
-use crate::number::whole;
 use crate::quoted::Quoted;
 use std::alloc::AllocError;
 use sw_tree::builder::DocBuilder;
+use sw_tree::fail::WireError;
+use sw_tree::number::whole_of_spelling;
 
 /// Adds the token at that offset below so many levels, or gives its fault. A text that is
 /// spelled with escapes is in the buffer.
@@ -19,7 +19,7 @@ fn build(
     depth: usize,
     lexeme: &Lexeme<'_>,
     buffer: &[u8],
-) -> Result<Option<Fault>, AllocError>
+) -> Result<Option<WireError>, AllocError>
     requires can { CanBuild depth (token_of buffer.now at lexeme.now) builder.old }
     requires told { TellsEscape lexeme.now }
     ensures { IfOk result (λ f. Builds None f depth (token_of buffer.now at lexeme.now) builder.old builder.new) }
@@ -28,8 +28,8 @@ fn build(
         Lexeme::Null => builder.null()?,
         Lexeme::Truth(value) => builder.bool(*value)?,
         Lexeme::Number(number) => {
-            let Some(value) = whole(number) else {
-                return Ok(Some(Fault::NotWhole(at)));
+            let Some(value) = whole_of_spelling(number) else {
+                return Ok(Some(WireError::NotWhole { at }));
             };
             builder.int(value)?;
         }
@@ -43,13 +43,13 @@ fn build(
         }
         Lexeme::OpenList => {
             if depth >= 128 {
-                return Ok(Some(Fault::TooDeep(at)));
+                return Ok(Some(WireError::TooDeep { at }));
             }
             builder.open_list()?;
         }
         Lexeme::OpenMap => {
             if depth >= 128 {
-                return Ok(Some(Fault::TooDeep(at)));
+                return Ok(Some(WireError::TooDeep { at }));
             }
             builder.open_map()?;
         }
@@ -65,12 +65,12 @@ fn build(
 /// fault nothing is added.
 pub(crate) fn keep(
     builder: &mut DocBuilder<'_>,
-    fault: Option<Fault>,
+    fault: Option<WireError>,
     at: usize,
     depth: usize,
     lexeme: &Lexeme<'_>,
     buffer: &[u8],
-) -> Result<Option<Fault>, AllocError>
+) -> Result<Option<WireError>, AllocError>
     requires can { fault ≡ None → CanBuild depth (token_of buffer.now at lexeme.now) builder.old }
     requires told { TellsEscape lexeme.now }
     ensures { IfOk result (λ f. Builds fault f depth (token_of buffer.now at lexeme.now) builder.old builder.new) }

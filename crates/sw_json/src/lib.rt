@@ -3,10 +3,8 @@
 
 mod building;
 mod class;
-mod fault;
 mod leaf;
 mod lexer;
-mod number;
 mod place;
 mod plain;
 mod print;
@@ -18,3 +16,6 @@ pub mod spelling;
 pub mod wire;
 
 pub use wire::JsonWire;
+
+#[cfg(test)]
+mod tests;

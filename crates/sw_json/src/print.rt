@@ -13,11 +13,10 @@ use crate::print_view::push_view;
 use std::alloc::Global;
 use sw_tree::{Content, Node, PrintError};
 
-/// The compact JSON text of a tree (RFC 8259): no whitespace, numbers in decimal, and in texts only `"`, `\`
-/// and the characters below U+0020 escaped, by `\b`, `\f`, `\n`, `\r` and `\t` where there is such an escape,
+/// The compact JSON text of the tree's image (RFC 8259): no whitespace, numbers in decimal, and in texts only `"`,
+/// `\` and the characters below U+0020 escaped, by `\b`, `\f`, `\n`, `\r` and `\t` where there is such an escape,
 /// else by `\u00` and two lower-case digits.
 ///
-/// A byte string prints as the list of its numbers, and a key that is a number or a truth value as the text of it.
 /// `Key` exactly where some key is null, a byte string, a list or a map; otherwise the one refusal is `Memory`.
 pub fn print(alloc: Global, node: &Node) -> Result<Vec<u8>, PrintError>
     ensures { IsPrinted result (json_text node.now) }

@@ -1,12 +1,11 @@
 //! Reading a JSON text.
 
 ghost use Rattle.std.specs.Prelude.{◌≡◌, IfOk, IfErr};
-ghost use Rattle.sw_tree.specs.Wires.{IsFound};
-ghost use Rattle.sw_json.specs.Spelled.{spelled, SpellsTree, HasEscaped, IsRefused};
+ghost use Rattle.sw_tree.specs.Wires.{IsFound, SpellsTree, IsRefused};
+ghost use Rattle.sw_json.specs.Spelled.{spells, spelled, HasEscaped};
 
 use crate::building::keep;
 use crate::class::{Class, split_class};
-use crate::fault::error;
 use crate::lexer::read_lexeme;
 use crate::place::{Place, is_end, step};
 use std::alloc::Global;
@@ -17,17 +16,15 @@ use sw_tree::fail::WireError;
 /// A text has usually no more nodes than one for so many bytes, for which room is taken ahead.
 const USUAL: usize = 8;
 
-/// The document of a JSON text (RFC 8259). Each text of the document is a part of the
-/// bytes, but for one that is spelled with escapes, of which it keeps a copy.
+/// The document of the tree that the bytes spell by RFC 8259. `side_len` is how long the
+/// texts that are spelled with an escape are together, names included.
 ///
-/// `Syntax` where the bytes are no such text, decided over all of them. Otherwise the first
-/// fault in order of place, if there is one: `NotWhole` at a number that has a fraction or
-/// an exponent, is minus zero, or isn't from -2^127 to 2^128 - 1; `TooDeep` at a list or
-/// map that opens a 129th level.
+/// `Syntax` where the bytes spell no raw tree. Otherwise, where the raw tree has faults, the
+/// first of them.
 pub fn read_tree<'de>(alloc: Global, bytes: &'de [u8]) -> Result<Doc<'de>, WireError>
     ensures found { IsFound result (spelled bytes.entry.now) }
-    ensures tree { IfOk result (λ d. SpellsTree bytes.entry.now d.tree) }
-    ensures refused { IfErr result (IsRefused bytes.entry.now) }
+    ensures tree { IfOk result (λ d. SpellsTree spells bytes.entry.now d.tree) }
+    ensures refused { IfErr result (IsRefused spells bytes.entry.now) }
     ensures side { IfOk result (λ d. HasEscaped bytes.entry.now d.side_len) }
 {
     let mut rest = bytes;
@@ -69,7 +66,7 @@ pub fn read_tree<'de>(alloc: Global, bytes: &'de [u8]) -> Result<Doc<'de>, WireE
         return Err(WireError::Syntax);
     }
     if let Some(fault) = fault {
-        return Err(error(fault));
+        return Err(fault);
     }
     Ok(builder.finish())
 }

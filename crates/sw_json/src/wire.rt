@@ -7,50 +7,57 @@ use sw_tree::node::Node;
 use sw_tree::wire::Wire;
 
 /// The JSON wire.
+#[derive(PartialEq, Eq, PartialOrd, Ord, Hash)]
 pub struct JsonWire;
 
 impl Wire for JsonWire {
     ghost use Rattle.std.specs.Prelude.{◌≡◌, IfOk, IfErr};
-    ghost use Rattle.sw_tree.specs.Wires.{IsFound, IsPrinted};
+    ghost use Rattle.sw_tree.specs.Wires.{IsFound, IsPrinted, SpellsTree, IsRefused, printed};
     ghost use Rattle.sw_tree.specs.declared.mode.WireKind.TheVariants.{Json};
-    ghost use Rattle.sw_json.specs.Spelled.{spelled, SpellsTree, HasEscaped, IsRefused};
-    ghost use Rattle.sw_json.specs.Text.{json_text};
+    ghost use Rattle.sw_json.specs.Spelled.{spells, spelled, HasEscaped};
+    ghost use Rattle.sw_json.specs.Text.{image_text};
+    ghost use Rattle.sw_json.specs.Laws.Completion.{grammar};
     ghost use Rattle.sw_json.specs.Laws.PrintedImages.{prints_images};
 
     const ID: WireKind = WireKind::Json;
 
     ghost ID = { Json };
 
+    ghost spells = { spells };
+
     ghost spelled = { spelled };
 
-    ghost printed = { json_text };
+    ghost text = { image_text };
+
+    ghost grammar = { grammar };
 
     ghost prints_images = { prints_images };
 
-    /// The document of a JSON text (RFC 8259). Each text of the document is a part of the
-    /// bytes, but for one that is spelled with escapes, of which it keeps a copy.
+    /// The document of the tree that the bytes spell by RFC 8259. An entry stays where its
+    /// key comes again. `side_len` is how long the texts that are spelled with an escape are
+    /// together, names included.
     ///
-    /// `Syntax` where the bytes are no such text, decided over all of them. Otherwise the
-    /// first fault in order of place, if there is one: `NotWhole` at a number that has a
-    /// fraction or an exponent, is minus zero, or isn't from -2^127 to 2^128 - 1; `TooDeep`
-    /// at a list or map that opens a 129th level.
+    /// `Syntax` where the bytes spell no raw tree. Otherwise, where the raw tree has faults,
+    /// the first of them: `NotWhole` at a number that has a fraction or an exponent, is
+    /// minus zero, or isn't from -2^127 to 2^128 - 1; `TooDeep` at a list or map that opens
+    /// a 129th level. `Memory` may come in place of any answer.
     fn read_tree<'de>(alloc: Global, bytes: &'de [u8]) -> Result<Doc<'de>, WireError>
         ensures found { IsFound result (spelled bytes.entry.now) }
-        ensures tree { IfOk result (λ d. SpellsTree bytes.entry.now d.tree) }
-        ensures refused { IfErr result (IsRefused bytes.entry.now) }
+        ensures tree { IfOk result (λ d. SpellsTree spells bytes.entry.now d.tree) }
+        ensures refused { IfErr result (IsRefused spells bytes.entry.now) }
         ensures side { IfOk result (λ d. HasEscaped bytes.entry.now d.side_len) }
     {
         reader::read_tree(alloc, bytes)
     }
 
-    /// The compact JSON text of a tree: no whitespace between tokens, numbers in decimal, and
-    /// in texts a backslash only before `"`, `\` and the characters below U+0020.
+    /// The compact JSON text of the tree's image: no whitespace between tokens, numbers in
+    /// decimal, and in texts an escape only for `"`, `\` and the characters below U+0020. In
+    /// the image a byte string is the list of its numbers, and a key that is a number or a
+    /// truth value is the text of it.
     ///
-    /// A byte string prints as the list of its numbers, a key that is a number or a truth
-    /// value as the text of it. `Key` exactly where some key is null, a byte string, a list
-    /// or a map.
+    /// `Key` exactly where some key is null, a byte string, a list or a map.
     fn print(alloc: Global, node: &Node) -> Result<Vec<u8>, PrintError>
-        ensures { IsPrinted result (json_text node.now) }
+        ensures { IsPrinted result (printed Json image_text node.now) }
     {
         print::print(alloc, node)
     }

@@ -1,7 +1,11 @@
 -- What bytes complete a state to, and that it is what the grammar says.
-use Rattle.std.proofs.Common.{◌≡◌, ◌≤◌, ◌<◌, ℕ, zero, suc, ◌+◌, ◌-◌, List, [], ◌∷◌, length, length-append, Option, Some, None, Bool, true, false, refl, ap, sym, subst, ◌∙◌, arith, cond}
-use Rattle.std.specs.Prelude.{option_and_then, option_map, Result, Ok, Err}
+use Rattle.std.proofs.Common.{◌≡◌, ◌≤◌, ◌<◌, ℕ, zero, suc, ◌+◌, ◌-◌, List, [], ◌∷◌, length, length-append, Option, Some, None, Bool, true, false, refl, ap, sym, subst, ◌∙◌, arith, cond, inl, inr}
+use Rattle.std.specs.Prelude.{option_and_then, option_map, Ok, Err}
 use Rattle.sw_tree.specs.Tree.{Tree}
+use Rattle.sw_tree.specs.Raw as shape
+use Rattle.sw_tree.specs.Faults as fault
+use Rattle.sw_tree.specs.Wires.{SpellsTree, IsCause, IsRefused, IsDecided, IsGrammar}
+use Rattle.sw_tree.specs.WireLaws as wires
 use Rattle.sw_tree.specs.declared.fail.WireError.{WireError}
 use Rattle.sw_tree.specs.declared.fail.WireError.TheVariants as wire
 use Rattle.sw_json.specs.Token.{Token}
@@ -10,10 +14,8 @@ use Rattle.sw_json.specs.Bytes.{front, is_blank}
 use Rattle.sw_json.specs.Grammar.{skip, Lexes, Spells}
 use Rattle.sw_json.specs.Lexing.{is_empty, lexeme, next_token, lex}
 use Rattle.sw_json.specs.Machine.{State, value, step, root, run}
-use Rattle.sw_json.specs.Faults.{faults, first, whole}
-use Rattle.sw_json.specs.Spelled.{SpellsTree, HasFault, IsCause, IsRefused, completed, raw_of, error_of, judged, judged_by, spelled}
-use Rattle.sw_json.specs.declared.fault.Fault.{Fault}
-use Rattle.sw_json.specs.declared.fault.Fault.TheVariants.{NotWhole, TooDeep}
+use Rattle.sw_json.specs.Shape.{shape_of}
+use Rattle.sw_json.specs.Spelled.{spells, completed, raw_of, judged, spelled}
 use Rattle.sw_json.specs.Laws.Fronts.{split}
 use Rattle.sw_json.specs.Laws.Lexemes.{found, taken, front_shorter}
 use Rattle.sw_json.specs.Laws.Structure.{reads_tree, tree_read}
@@ -113,83 +115,49 @@ raw_spelled off bytes r h =
 pub unique : (off : ℕ) (bytes : List ℕ) (r s : Raw) → Spells off bytes r → Spells off bytes s → r ≡ s
 unique off bytes r s h k = some_is (sym (raw_found off bytes r h) ∙ raw_found off bytes s k)
 
--- ---- the bytes and the tree
+-- ---- the grammar, as every wire states it
 
-judged_tree : (fs : List Fault) (t u : Tree) → judged_by fs t ≡ Ok u → (fs ≡ []) × (u ≡ t)
-judged_tree [] t u h = (refl, cc)
-judged_tree (f ∷ fs) t u h = cc
+one_shape : (bytes : List ℕ) (r s : shape.Raw) → spells bytes r → spells bytes s → r ≡ s
+one_shape bytes r s h k = sym h.shape_is ∙ ap shape_of (unique 0 bytes h.raw k.raw h.spelled k.spelled) ∙ k.shape_is
 
-tree_at : (bytes : List ℕ) (o : Option Raw) (t : Tree) → raw_of 0 bytes ≡ o → judged o ≡ Ok t → SpellsTree bytes t
-tree_at bytes None t e h = cc
-tree_at bytes (Some r) t e h =
-    let j = judged_tree (faults 0 r []) (whole r) t h in
-    record { raw = r; spelled = raw_spelled 0 bytes r e; faultless = j.0; value_is = j.1 }
-
-pub tree_spelled : (bytes : List ℕ) (t : Tree) → spelled bytes ≡ Ok t → SpellsTree bytes t
+judged_shape : (bytes : List ℕ) (s : shape.Raw) → spells bytes s → spelled bytes ≡ fault.judged s
 unfolding spelled
-tree_spelled bytes t h = tree_at bytes (raw_of 0 bytes) t refl h
+judged_shape bytes s h = ap judged (raw_found 0 bytes h.raw h.spelled) ∙ ap fault.judged h.shape_is
 
-pub tree_found : (bytes : List ℕ) (t : Tree) → SpellsTree bytes t → spelled bytes ≡ Ok t
+none_of : (bytes : List ℕ) (o : Option Raw) → raw_of 0 bytes ≡ o → ((s : shape.Raw) → spells bytes s → ⊥) → o ≡ None
+none_of bytes None z h = refl
+none_of bytes (Some r) z h = absurd (h (shape_of r) (record { raw = r; spelled = raw_spelled 0 bytes r z; shape_is = refl }))
+
+syntax_found : (bytes : List ℕ) → ((s : shape.Raw) → spells bytes s → ⊥) → spelled bytes ≡ Err wire.Syntax
 unfolding spelled
-tree_found bytes t s = ap judged (raw_found 0 bytes s.raw s.spelled) ∙ ap (λ fs. judged_by fs (whole s.raw)) s.faultless ∙ ap (λ u. Ok u) (sym s.value_is)
+syntax_found bytes h = ap judged (none_of bytes (raw_of 0 bytes) refl h)
 
-err_ok : {A E : Type 0} {e : E} {t : A} → Err e ≡ Ok t → ⊥
-err_ok h = cc
+decided_by : (bytes : List ℕ) (o : Option Raw) → raw_of 0 bytes ≡ o → IsDecided spells bytes
+decided_by bytes None e = inr (λ s k. none_some (sym e ∙ raw_found 0 bytes k.raw k.spelled))
+decided_by bytes (Some r) e = inl (shape_of r, record { raw = r; spelled = raw_spelled 0 bytes r e; shape_is = refl })
 
-err_is : {A E : Type 0} {e d : E} → ◌≡◌ {A = Result A E} (Err e) (Err d) → e ≡ d
-err_is h = cc
+decided : (bytes : List ℕ) → IsDecided spells bytes
+decided bytes = decided_by bytes (raw_of 0 bytes) refl
 
-none_at : (off : ℕ) (bytes : List ℕ) → raw_of off bytes ≡ None → (r : Raw) → Spells off bytes r → ⊥
-none_at off bytes h r s = none_some (sym h ∙ raw_found off bytes r s)
+pub grammar : IsGrammar spells spelled
+grammar = record { one = one_shape; decided = decided; found = judged_shape; none = syntax_found }
 
-cause_of : (bytes : List ℕ) (f : Fault) → HasFault bytes f → IsCause bytes (error_of f)
-cause_of bytes (NotWhole at) h = h
-cause_of bytes (TooDeep at) h = h
+-- ---- the bytes and what they are read as
 
-cause_by : (bytes : List ℕ) (r : Raw) (fs : List Fault) (t : Tree) (e : WireError) → Spells 0 bytes r → faults 0 r [] ≡ fs → judged_by fs t ≡ Err e → IsCause bytes e
-cause_by bytes r [] t e s z h = absurd (err_ok (sym h))
-cause_by bytes r (f ∷ fs) t e s z h = subst (IsCause bytes) (err_is h) (cause_of bytes f (record { raw = r; spelled = s; first_is = ap first z }))
+pub tree_spelled : (bytes : List ℕ) (t : Tree) → spelled bytes ≡ Ok t → SpellsTree spells bytes t
+tree_spelled bytes t h = wires.tree_spelled spells spelled grammar bytes t h
 
-cause_at : (bytes : List ℕ) (o : Option Raw) (e : WireError) → raw_of 0 bytes ≡ o → judged o ≡ Err e → IsCause bytes e
-cause_at bytes None e z h = subst (IsCause bytes) (err_is h) (none_at 0 bytes z)
-cause_at bytes (Some r) e z h = cause_by bytes r (faults 0 r []) (whole r) e (raw_spelled 0 bytes r z) refl h
+pub tree_found : (bytes : List ℕ) (t : Tree) → SpellsTree spells bytes t → spelled bytes ≡ Ok t
+tree_found bytes t s = wires.tree_found spells spelled grammar bytes t s
 
--- an error is answered for its cause
-pub err_spelled : (bytes : List ℕ) (e : WireError) → spelled bytes ≡ Err e → IsCause bytes e
-unfolding spelled
-err_spelled bytes e h = cause_at bytes (raw_of 0 bytes) e refl h
+pub err_spelled : (bytes : List ℕ) (e : WireError) → spelled bytes ≡ Err e → IsCause spells bytes e
+err_spelled bytes e h = wires.cause_spelled spells spelled grammar bytes e h
 
-judged_first : (fs : List Fault) (t : Tree) (f : Fault) → first fs ≡ Some f → judged_by fs t ≡ Err (error_of f)
-judged_first [] t f h = cc
-judged_first (g ∷ fs) t f h = ap (λ x. Err (error_of x)) (some_is h)
+pub err_found : (bytes : List ℕ) (e : WireError) → IsCause spells bytes e → spelled bytes ≡ Err e
+err_found bytes e h = wires.cause_found spells spelled grammar bytes e h
 
-fault_found : (bytes : List ℕ) (f : Fault) → HasFault bytes f → spelled bytes ≡ Err (error_of f)
-unfolding spelled
-fault_found bytes f h = ap judged (raw_found 0 bytes h.raw h.spelled) ∙ judged_first (faults 0 h.raw []) (whole h.raw) f h.first_is
-
-none_of : (off : ℕ) (bytes : List ℕ) (o : Option Raw) → raw_of off bytes ≡ o → ((r : Raw) → Spells off bytes r → ⊥) → o ≡ None
-none_of off bytes None z h = refl
-none_of off bytes (Some r) z h = absurd (h r (raw_spelled off bytes r z))
-
-syntax_found : (bytes : List ℕ) → ((r : Raw) → Spells 0 bytes r → ⊥) → spelled bytes ≡ Err wire.Syntax
-unfolding spelled
-syntax_found bytes h = ap judged (none_of 0 bytes (raw_of 0 bytes) refl h)
-
--- a cause is answered by its error
-pub err_found : (bytes : List ℕ) (e : WireError) → IsCause bytes e → spelled bytes ≡ Err e
-err_found bytes wire.Syntax h = syntax_found bytes h
-err_found bytes (wire.NotWhole at) h = fault_found bytes (NotWhole at) h
-err_found bytes (wire.TooDeep at) h = fault_found bytes (TooDeep at) h
-err_found bytes wire.Memory h = absurd h
-
-refused_by_cause : (bytes : List ℕ) (e : WireError) → IsCause bytes e → IsRefused bytes e
-refused_by_cause bytes wire.Syntax h = h
-refused_by_cause bytes (wire.NotWhole at) h = h
-refused_by_cause bytes (wire.TooDeep at) h = h
-refused_by_cause bytes wire.Memory h = tt
-
-pub refused_by : (bytes : List ℕ) (e : WireError) → spelled bytes ≡ Err e → IsRefused bytes e
-refused_by bytes e h = refused_by_cause bytes e (err_spelled bytes e h)
+pub refused_by : (bytes : List ℕ) (e : WireError) → spelled bytes ≡ Err e → IsRefused spells bytes e
+refused_by bytes e h = wires.refused_spelled spells spelled grammar bytes e h
 
 -- ---- for the reader: one token more, and the three ends
 

@@ -25,7 +25,7 @@ empty_is (b ∷ bs) h = cc
 
 -- ---- bytes
 
-leading_isnt_minus : (d : ℕ) → is_leading d ≡ true → eqb d 45 ≡ false
+pub leading_isnt_minus : (d : ℕ) → is_leading d ≡ true → eqb d 45 ≡ false
 unfolding is_leading
 leading_isnt_minus d h = grind (arith, nat_tests)
 
@@ -42,11 +42,11 @@ unfolding is_digit
 digit_isnt_sign d h = (grind (arith, nat_tests), grind (arith, nat_tests))
 
 -- a point, and the letters of an exponent, are no digits
-point_isnt_digit : is_digit 46 ≡ false
+pub point_isnt_digit : is_digit 46 ≡ false
 unfolding is_digit
 point_isnt_digit = refl
 
-letter_isnt_digit : (is_digit 101 ≡ false) × (is_digit 69 ≡ false)
+pub letter_isnt_digit : (is_digit 101 ≡ false) × (is_digit 69 ≡ false)
 unfolding is_digit
 letter_isnt_digit = (refl, refl)
 

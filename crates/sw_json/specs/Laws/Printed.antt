@@ -4,22 +4,25 @@ use Rattle.std.proofs.lemmas.Bool.Decides.{nat_tests}
 use Rattle.std.specs.Prelude.{Ok}
 use Rattle.std.specs.Fmt.{signed_decimal}
 use Rattle.std.specs.List.{list_all}
-use Rattle.sw_tree.specs.Tree.{Tree, null, truth, int, text, bytes, list, map, Trees, no_trees, tree, trees, Entries, no_entries, entry, entries, depth, trees_depth, entries_depth}
+use Rattle.sw_tree.specs.Tree.{Tree, null, truth, int, text, bytes, list, map, Trees, no_trees, tree, Entries, no_entries, entry, depth, trees_depth, entries_depth}
+use Rattle.sw_tree.specs.NumberLaws.{key_number-signed_decimal}
+use Rattle.sw_tree.specs.Faults.{int_of, number_fault, level_fault, faults, items_faults, entries_faults, whole, wholes, whole_entries}
+use Rattle.sw_tree.specs.Wires.{SpellsTree}
+use Rattle.sw_tree.specs.declared.fail.WireError.{WireError}
 use Rattle.sw_json.specs.Token.{Quote, Token}
 use Rattle.sw_json.specs.Raw.{Raw, RawItems, no_items, item, RawEntries, tokens, items_tokens, more_tokens, entries_tokens, more_entries as more_entries_tokens}
 use Rattle.sw_json.specs.Raw as raw
 use Rattle.sw_json.specs.Bytes.{Stops, is_blank, is_digit, is_number_byte}
 use Rattle.sw_json.specs.Grammar.{skip, Front, Lexes, IsNumber}
-use Rattle.sw_json.specs.Faults.{open_fault, faults, items_faults, entries_faults, whole, wholes, whole_entries}
-use Rattle.sw_json.specs.declared.fault.Fault.{Fault}
+use Rattle.sw_json.specs.Shape.{shape_of, items_shape, entries_shape}
 use Rattle.sw_json.specs.Text.{escaped, text_of, items_text, more_items, entries_text, more_entries}
 use Rattle.sw_json.specs.Images.{IsKey, IsImage, AreImages, AreImageEntries}
-use Rattle.sw_json.specs.Spelled.{SpellsTree, spelled}
+use Rattle.sw_json.specs.Spelled.{spells, spelled}
 use Rattle.sw_json.specs.Laws.Numbers.{number_bytes, number_length}
 use Rattle.sw_json.specs.Laws.Fronts.{and_left}
 use Rattle.sw_json.specs.Laws.Completion.{tree_found}
 use Rattle.sw_json.specs.Laws.PrintedTexts.{escaped-append, escaped_quoted}
-use Rattle.sw_json.specs.Laws.PrintedNumbers.{decimal_number, decimal_whole, decimal_value}
+use Rattle.sw_json.specs.Laws.PrintedNumbers.{decimal_number}
 
 -- ---- the raw tree that a text spells, where what follows is given and the bytes end at this offset
 
@@ -62,57 +65,57 @@ name_text end (list ts) k h = absurd h
 name_text end (map es) k h = absurd h
 
 mutual
-  whole_located : (end : ℕ) (t : Tree) (k : List ℕ) → IsImage t → whole (located end t k) ≡ t
+  whole_located : (end : ℕ) (t : Tree) (k : List ℕ) → IsImage t → whole (shape_of (located end t k)) ≡ t
   whole_located end null k h = refl
   whole_located end (truth true) k h = refl
   whole_located end (truth false) k h = refl
-  whole_located end (int n) k h = ap int (decimal_value n h)
+  whole_located end (int n) k h = ap (λ o. int (int_of o)) (key_number-signed_decimal n h)
   whole_located end (text s) k h = refl
   whole_located end (bytes s) k h = absurd h
   whole_located end (list ts) k h = ap list (wholes_located end ts k h)
   whole_located end (map es) k h = ap map (entries_located end es k h)
 
-  wholes_located : (end : ℕ) (ts : Trees) (k : List ℕ) → AreImages ts → trees (wholes (located_items end ts k)) ≡ ts
+  wholes_located : (end : ℕ) (ts : Trees) (k : List ℕ) → AreImages ts → wholes (items_shape (located_items end ts k)) ≡ ts
   wholes_located end no_trees k h = refl
   wholes_located end (tree t ts) k h =
-      ap (λ x. tree x (trees (wholes (located_items end ts k)))) (whole_located end t (more_items ts k) h.0) ∙ ap (tree t) (wholes_located end ts k h.1)
+      ap (λ x. tree x (wholes (items_shape (located_items end ts k)))) (whole_located end t (more_items ts k) h.0) ∙ ap (tree t) (wholes_located end ts k h.1)
 
-  entries_located : (end : ℕ) (es : Entries) (k : List ℕ) → AreImageEntries es → entries (whole_entries (located_entries end es k)) ≡ es
+  entries_located : (end : ℕ) (es : Entries) (k : List ℕ) → AreImageEntries es → whole_entries (entries_shape (located_entries end es k)) ≡ es
   entries_located end no_entries k h = refl
   entries_located end (entry key value es) k h =
-      let rest = entries (whole_entries (located_entries end es k)) in
-      ap (λ x. entry x (whole (located end value (more_entries es k))) rest) (name_text end key (58 ∷ text_of value (more_entries es k)) h.0)
+      let rest = whole_entries (entries_shape (located_entries end es k)) in
+      ap (λ x. entry x (whole (shape_of (located end value (more_entries es k)))) rest) (name_text end key (58 ∷ text_of value (more_entries es k)) h.0)
       ∙ ap (λ x. entry key x rest) (whole_located end value (more_entries es k) h.1) ∙ ap (entry key value) (entries_located end es k h.2)
 
 -- ---- it has no faults
 
-open_is : (d at : ℕ) (fs : List Fault) → d < 128 → open_fault d at fs ≡ fs
+open_is : (d at : ℕ) (fs : List WireError) → d < 128 → level_fault d at fs ≡ fs
 open_is d at fs h = let e : ltb d 128 ≡ true = grind (arith, nat_tests, h) in rw e refl
 
 mutual
-  faultless : (d end : ℕ) (t : Tree) (k : List ℕ) (fs : List Fault) → IsImage t → d + depth t ≤ 128 → faults d (located end t k) fs ≡ fs
+  faultless : (d end : ℕ) (t : Tree) (k : List ℕ) (fs : List WireError) → IsImage t → d + depth t ≤ 128 → faults d (shape_of (located end t k)) fs ≡ fs
   faultless d end null k fs h l = refl
   faultless d end (truth true) k fs h l = refl
   faultless d end (truth false) k fs h l = refl
-  faultless d end (int n) k fs h l = rw (decimal_whole n h) refl
+  faultless d end (int n) k fs h l = ap (λ o. number_fault (end - length (signed_decimal n ++ k)) o fs) (key_number-signed_decimal n h)
   faultless d end (text s) k fs h l = refl
   faultless d end (bytes s) k fs h l = absurd h
   faultless d end (list ts) k fs h l =
-      open_is d (end - length (91 ∷ items_text ts k)) (items_faults (suc d) (located_items end ts k) fs) (omega (arith, l))
+      open_is d (end - length (91 ∷ items_text ts k)) (items_faults (suc d) (items_shape (located_items end ts k)) fs) (omega (arith, l))
       ∙ items_faultless (suc d) end ts k fs h (omega (arith, l))
   faultless d end (map es) k fs h l =
-      open_is d (end - length (123 ∷ entries_text es k)) (entries_faults (suc d) (located_entries end es k) fs) (omega (arith, l))
+      open_is d (end - length (123 ∷ entries_text es k)) (entries_faults (suc d) (entries_shape (located_entries end es k)) fs) (omega (arith, l))
       ∙ entries_faultless (suc d) end es k fs h (omega (arith, l))
 
-  items_faultless : (d end : ℕ) (ts : Trees) (k : List ℕ) (fs : List Fault) → AreImages ts → d + trees_depth ts ≤ 128 → items_faults d (located_items end ts k) fs ≡ fs
+  items_faultless : (d end : ℕ) (ts : Trees) (k : List ℕ) (fs : List WireError) → AreImages ts → d + trees_depth ts ≤ 128 → items_faults d (items_shape (located_items end ts k)) fs ≡ fs
   items_faultless d end no_trees k fs h l = refl
   items_faultless d end (tree t ts) k fs h l =
-      faultless d end t (more_items ts k) (items_faults d (located_items end ts k) fs) h.0 (omega (arith, l)) ∙ items_faultless d end ts k fs h.1 (omega (arith, l))
+      faultless d end t (more_items ts k) (items_faults d (items_shape (located_items end ts k)) fs) h.0 (omega (arith, l)) ∙ items_faultless d end ts k fs h.1 (omega (arith, l))
 
-  entries_faultless : (d end : ℕ) (es : Entries) (k : List ℕ) (fs : List Fault) → AreImageEntries es → d + entries_depth es ≤ 128 → entries_faults d (located_entries end es k) fs ≡ fs
+  entries_faultless : (d end : ℕ) (es : Entries) (k : List ℕ) (fs : List WireError) → AreImageEntries es → d + entries_depth es ≤ 128 → entries_faults d (entries_shape (located_entries end es k)) fs ≡ fs
   entries_faultless d end no_entries k fs h l = refl
   entries_faultless d end (entry key value es) k fs h l =
-      faultless d end value (more_entries es k) (entries_faults d (located_entries end es k) fs) h.1 (omega (arith, l)) ∙ entries_faultless d end es k fs h.2 (omega (arith, l))
+      faultless d end value (more_entries es k) (entries_faults d (entries_shape (located_entries end es k)) fs) h.1 (omega (arith, l)) ∙ entries_faultless d end es k fs h.2 (omega (arith, l))
 
 -- ---- what begins no blank
 
@@ -208,12 +211,12 @@ mutual
       (prints_named end key (text_of value rest) (tokens (located end value rest) after) h.0 (prints end value rest after h.1 (entries_stop es k) (prints_more_entries end es k ts h.2 l)))
 
 -- the bytes that an image is printed as spell it without faults
-pub printed_spells : (t : Tree) → IsImage t → depth t ≤ 128 → SpellsTree (text_of t []) t
+pub printed_spells : (t : Tree) → IsImage t → depth t ≤ 128 → SpellsTree spells (text_of t []) t
 printed_spells t h l =
     let end = 0 + length (text_of t []) in
     record {
-      raw = located end t [];
-      spelled = prints end t [] [] h tt refl;
+      raw = shape_of (located end t []);
+      spelled = record { raw = located end t []; spelled = prints end t [] [] h tt refl; shape_is = refl };
       faultless = faultless 0 end t [] [] h (omega (arith, l));
       value_is = sym (whole_located end t [] h);
     }

@@ -3,6 +3,7 @@ use Rattle.std.proofs.Common.{◌≡◌, ℕ, suc, ◌≤◌, ◌<◌, ◌^◌, 
 use Rattle.std.proofs.lemmas.Fmt.{IsAscii-decimal_wide}
 use Rattle.std.proofs.lemmas.Str.{IsUtf8-from_ascii, IsUtf8-append}
 use Rattle.std.specs.Fmt.{signed_decimal}
+use Rattle.sw_tree.specs.Utf8.{signed_decimal-utf8, bool_text-utf8}
 use Rattle.sw_tree.specs.Steps.{Each}
 use Rattle.sw_tree.specs.Tree.{Tree, null, truth, int, text, bytes, list, map, Trees, no_trees, tree, Entries, no_entries, entry, depth, trees_depth, entries_depth}
 use Rattle.sw_tree.specs.Image.{bool_text, numbers, key_image, next_tree, next_entry, value_image, trees_image, entries_image, image}
@@ -13,26 +14,10 @@ use Rattle.sw_tree.specs.Proper.{IsProper, AreProper, AreProperEntries}
 use Rattle.sw_tree.specs.Wires.{PrintsImages}
 use Rattle.sw_json.specs.Images.{IsKey, IsImage, AreImages, AreImageEntries}
 use Rattle.sw_json.specs.Spelled.{spelled}
-use Rattle.sw_json.specs.Text.{text_of, json_text}
+use Rattle.sw_json.specs.Text.{text_of, image_text, json_text}
 use Rattle.sw_json.specs.Laws.Printed.{printed_spelled}
 
 -- ---- keys
-
-decimal_utf8 : (n : ℕ) → n < 2 ^ 129 → IsUtf8 (decimal n)
-decimal_utf8 n h = IsUtf8-from_ascii (decimal n) (IsAscii-decimal_wide n (omega (arith, h)))
-
-minus_utf8 : IsUtf8 (codes "-")
-unfolding lib.Utf8.encode
-minus_utf8 = (codes "-", (refl, refl))
-
-signed_utf8 : (n : ℤ) → IsInRange n → IsUtf8 (signed_decimal n)
-signed_utf8 (pos n) h = decimal_utf8 n (omega (arith, h))
-signed_utf8 (negsuc n) h = IsUtf8-append (codes "-") (decimal (suc n)) minus_utf8 (decimal_utf8 (suc n) (omega (arith, h)))
-
-bool_utf8 : (b : Bool) → IsUtf8 (bool_text b)
-unfolding lib.Utf8.encode
-bool_utf8 true = (codes "true", (refl, refl))
-bool_utf8 false = (codes "false", (refl, refl))
 
 abbrev IsKeyIf : Option Tree → Type 0
 IsKeyIf None = Unit {0}
@@ -40,8 +25,8 @@ IsKeyIf (Some i) = IsKey i × (depth i ≡ 0)
 
 key_is : (t : Tree) → IsProper t → IsKeyIf (key_image t)
 key_is null h = tt
-key_is (truth b) h = (bool_utf8 b, refl)
-key_is (int n) h = (signed_utf8 n h, refl)
+key_is (truth b) h = (bool_text-utf8 b, refl)
+key_is (int n) h = (signed_decimal-utf8 n h, refl)
 key_is (text s) h = (h, refl)
 key_is (bytes s) h = tt
 key_is (list ts) h = tt
@@ -123,8 +108,7 @@ printed_of t (Some i) s e h l k =
 pub printed_image : (t : Tree) (s : List ℕ) → IsProper t → depth t ≤ 128 → json_text t ≡ Some s → (i : Tree) × (image Json Value t ≡ Some i) × (spelled s ≡ Ok i)
 printed_image t s h l k = printed_of t (image Json Value t) s refl h l k
 
--- and a proper tree that has an image is printed
-pub prints_images : PrintsImages Json spelled json_text
+pub prints_images : PrintsImages Json spelled image_text
 prints_images t i h l e =
-    let m = image_is t i h e in
-    (text_of i [], ap (option_map (λ u. text_of u [])) e, printed_spelled i m.0 (omega (arith, m.1, l)))
+    let m = image_is t i h.proper e in
+    printed_spelled i m.0 (omega (arith, m.1, h.shallow))

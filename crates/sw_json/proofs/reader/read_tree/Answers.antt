@@ -1,6 +1,6 @@
 use Rattle.std.proofs.Common.{◌≡◌, Bor, ℕ, ◌+◌, ◌-◌, ◌<◌, ◌^◌, List, length, sym, ap, ◌∙◌, arith}
 use Rattle.std.proofs.lemmas.List.{length-reverse}
-use Rattle.std.specs.Prelude.{Ok, Err, reverse}
+use Rattle.std.specs.Prelude.{Ok, reverse}
 use Rattle.sw_tree.specs.Tree.{Tree}
 use Rattle.sw_tree.specs.declared.fail.WireError.TheVariants.{Syntax}
 use Rattle.sw_json.specs.Token.{Token}
@@ -85,17 +85,17 @@ returns-then-not-is_end-clause-refused c = err_spelled c.args.bytes.now Syntax (
 
 pub returns-in-Some-fault-clause-found : goal.returns-in-Some-fault-clause-found
 returns-in-Some-fault-clause-found c =
-    stands.found_err c.error.result (spelled c.args.bytes.now)
+    stands.found_err c.in-Some-fault.fault (spelled c.args.bytes.now)
     (stands.faulty c.args.bytes.now c.tokens.place (reverse c.tokens.levels.items) c.tokens.fault c.tokens.builder c.tokens.rest.now c.tokens.invariant c.in-Some-fault.fault
     (stands.nothing_left c.tokens.rest.now _ c.split_class.ensures.behind c.if-is_empty.ensures)
-    (sym c.is_end.ensures ∙ c.if-not-is_end.false) c.in-Some-fault.is ∙ ap (λ e. Err e) (sym c.error.ensures))
+    (sym c.is_end.ensures ∙ c.if-not-is_end.false) c.in-Some-fault.is)
 
 pub returns-in-Some-fault-clause-refused : goal.returns-in-Some-fault-clause-refused
 returns-in-Some-fault-clause-refused c =
-    refused_by c.args.bytes.now c.error.result
+    refused_by c.args.bytes.now c.in-Some-fault.fault
     (stands.faulty c.args.bytes.now c.tokens.place (reverse c.tokens.levels.items) c.tokens.fault c.tokens.builder c.tokens.rest.now c.tokens.invariant c.in-Some-fault.fault
     (stands.nothing_left c.tokens.rest.now _ c.split_class.ensures.behind c.if-is_empty.ensures)
-    (sym c.is_end.ensures ∙ c.if-not-is_end.false) c.in-Some-fault.is ∙ ap (λ e. Err e) (sym c.error.ensures))
+    (sym c.is_end.ensures ∙ c.if-not-is_end.false) c.in-Some-fault.is)
 
 pub finish-requires : goal.finish-requires
 finish-requires c =

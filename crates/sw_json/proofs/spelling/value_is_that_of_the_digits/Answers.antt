@@ -1,0 +1,8 @@
+use Rattle.sw_json.specs.Laws.WholeNumbers.{digits_value, no_value}
+use Rattle.sw_json.proofs.spelling.value_is_that_of_the_digits.Goals as goal
+
+pub returns-clause-digits : goal.returns-clause-digits
+returns-clause-digits c = digits_value
+
+pub returns-clause-none : goal.returns-clause-none
+returns-clause-none c = no_value
