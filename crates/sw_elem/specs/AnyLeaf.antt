@@ -8,6 +8,7 @@ use Rattle.sw_tree.specs.Kinds.{has}
 use Rattle.sw_tree.specs.Meaning.{Meaning}
 use Rattle.sw_tree.specs.Meaning as meaning
 use Rattle.sw_tree.specs.Nodes.{kinds, trees_kinds, entries_kinds, HasKind, kinds-size}
+use Rattle.sw_tree.specs.Proper.{IsNodeTree}
 use Rattle.sw_tree.specs.Tree.{Tree, null, truth, int, text, bytes, list, map, Trees, no_trees, tree, Entries, no_entries, entry, size, kind_of}
 use Rattle.sw_tree.specs.declared.mode.Mode.{Mode}
 use Rattle.sw_tree.specs.declared.mode.WireKind.{WireKind}
@@ -18,14 +19,12 @@ use Rattle.sw_tree.specs.declared.mode.Kind.{Kind}
 use Rattle.sw_tree.specs.declared.mode.Kind.TheVariants as kind
 use Rattle.sw_tree.specs.declared.fail.DeError.TheVariants as fail
 use Rattle.sw_check.specs.Facts.{claims_at}
-use Rattle.sw_check.specs.Form.{leaf}
-use Rattle.sw_elem.specs.Equations.{no_skips}
 use Rattle.sw_elem.specs.Facts.{all_but_bytes, stands, any_facts}
 use Rattle.sw_elem.specs.Foreign.{is_text, is_any, are_any, are_any_keyed, Foreign, further, foreign_key, foreign, foreign_items, foreign_entries, any_writes, taken, any_reads, number_of, any_spot, IsAny}
 use Rattle.sw_elem.specs.ForeignLaws.{any_foreign}
 use Rattle.sw_elem.specs.Laws.{HasSpotKinds}
-use Rattle.sw_elem.specs.Lawful.{Lawful, same_norm}
-use Rattle.sw_elem.specs.Leaf.{IsBack, IsLeaf, everywhere_read, leaf_lawful}
+use Rattle.sw_elem.specs.Lawful.{LawfulLeaf, same_norm}
+use Rattle.sw_elem.specs.Leaf.{IsBack, IsLeaf, everywhere_read, keeps_leaf}
 
 -- ---- such a node has the kind that is said of it
 
@@ -156,7 +155,7 @@ any_written m _ = refl
 
 any_back : (m : Mode) → claims_at (stands false false) m ≡ true → (v : Meaning) → IsAny v → IsBack any_reads m (any_node v) v
 unfolding any_node
-any_back m c (meaning.tree t) h = any_claimed t h m.wire m.place m.buffered c
+any_back m c (meaning.tree t) h = any_claimed t h.0 m.wire m.place m.buffered c
 any_back m c _ h = absurd h
 
 any_kind : (t : Tree) → is_any t ≡ true → has all_but_bytes (kind_of t) ≡ true
@@ -170,8 +169,13 @@ any_kind (map es) h = refl
 
 any_is : (v : Meaning) → IsAny v → has all_but_bytes (kind_of (any_node v)) ≡ true
 unfolding any_node
-any_is (meaning.tree t) h = any_kind t h
+any_is (meaning.tree t) h = any_kind t h.0
 any_is _ h = absurd h
+
+any_nodes : (v : Meaning) → IsAny v → IsNodeTree (any_node v)
+unfolding any_node
+any_nodes (meaning.tree t) h = h.1
+any_nodes _ h = absurd h
 
 any_read : (t : Tree) (v : Meaning) → taken t (foreign t) ≡ Ok v → has all_but_bytes (kind_of t) ≡ true
 any_read (bytes s) v p = absurd (cc)
@@ -187,9 +191,10 @@ any_leaf = record {
   writing = any_written;
   back = any_back;
   written = any_is;
+  nodes = any_nodes;
   read = λ m t v p. everywhere_read all_but_bytes (stands false false) m (kind_of t) (any_read t v p);
   spots = any_spots;
 }
 
-pub any_keeps : Lawful IsAny any_writes any_reads any_spot no_skips (leaf any_facts) same_norm (Unit {0})
-any_keeps = leaf_lawful IsAny any_writes any_reads any_spot any_facts any_node any_leaf
+pub any_keeps : LawfulLeaf IsAny any_writes any_reads any_spot any_facts same_norm (Unit {0})
+any_keeps = keeps_leaf IsAny any_writes any_reads any_spot any_facts any_node any_leaf

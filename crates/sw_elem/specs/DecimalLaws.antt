@@ -13,6 +13,8 @@ use Rattle.std.proofs.lemmas.Bool.Decides.{Decides-and, Decides-ltb}
 use Rattle.std.proofs.lemmas.Fmt.{decimal_is_IsNumeral_wide}
 use Rattle.std.proofs.lemmas.Str.Parse.{IsNumeralModel, numerals_by_value, tells_all_ascii_digits, not_in_digits, without_leading_plus_none}
 use Rattle.sw_tree.specs.Meaning.{Meaning, number}
+use Rattle.std.specs.Str.{IsUtf8}
+use Rattle.sw_tree.specs.Utf8.{decimal-utf8, signed_decimal-utf8}
 use Rattle.sw_tree.specs.Meant.{unsigned_meaning, IsBelow, IsSigned}
 use Rattle.sw_check.specs.TextClass.{IsOfClass}
 use Rattle.sw_elem.specs.Classes.{digit_class, signed_class}
@@ -67,8 +69,12 @@ classed_below : (limit : ℕ) → limit ≤ 10 ^ 64 → (v : Meaning) → IsBelo
 classed_below limit most (number (pos n)) h = digits_classed n (omega arith)
 classed_below limit most _ h = absurd h
 
+utf8_below : (limit : ℕ) → limit ≤ 10 ^ 64 → (v : Meaning) → IsBelow limit v → IsUtf8 (decimal_shows v)
+utf8_below limit most (number (pos n)) h = decimal-utf8 n (omega arith)
+utf8_below limit most _ h = absurd h
+
 pub unsigned_lawful : (limit : ℕ) → limit ≤ 10 ^ 64 → LawfulText (IsBelow limit) decimal_shows (unsigned_parses limit) digit_class
-unsigned_lawful limit most = record { shown = shown_below limit most; classed = classed_below limit most; parsed = unsigned_parsed limit }
+unsigned_lawful limit most = record { shown = shown_below limit most; classed = classed_below limit most; utf8 = utf8_below limit most; parsed = λ s v u p. unsigned_parsed limit s v p }
 
 -- ---- signed numbers
 
@@ -132,5 +138,10 @@ signed_of_class : (w : Width) (v : Meaning) → IsSigned w v → IsOfClass signe
 signed_of_class w (number z) h = signed_classed z (omega (arith, half_most w, h.sfits))
 signed_of_class w _ h = absurd h
 
+signed_utf8 : (w : Width) (v : Meaning) → IsSigned w v → IsUtf8 (decimal_shows v)
+signed_utf8 w (number (pos n)) h = let e : n < 2 ^ hbits w = h.sfits in signed_decimal-utf8 (pos n) (omega (arith, half_most w))
+signed_utf8 w (number (negsuc n)) h = let e : n < 2 ^ hbits w = h.sfits in signed_decimal-utf8 (negsuc n) (omega (arith, half_most w))
+signed_utf8 w _ h = absurd h
+
 pub signed_lawful : (w : Width) → LawfulText (IsSigned w) decimal_shows (signed_parses (2 ^ hbits w)) signed_class
-signed_lawful w = record { shown = signed_text w; classed = signed_of_class w; parsed = signed_parsed w }
+signed_lawful w = record { shown = signed_text w; classed = signed_of_class w; utf8 = signed_utf8 w; parsed = λ s v u p. signed_parsed w s v p }

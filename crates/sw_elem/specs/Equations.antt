@@ -3,6 +3,7 @@ use Rattle.std.specs.Prelude.{◌≡◌, ℕ, ◌<◌, List, [], Result, Ok, Err
 use Rattle.std.proofs.Common.{arith}
 use Rattle.sw_tree.specs.Meaning.{Meaning}
 use Rattle.sw_tree.specs.Placed.{Note}
+use Rattle.sw_tree.specs.Proper.{IsNodeTree}
 use Rattle.sw_tree.specs.Tree.{Tree, size}
 use Rattle.sw_tree.specs.Tree as tree
 use Rattle.sw_tree.specs.declared.mode.Mode.{Mode}
@@ -25,9 +26,9 @@ Spots = Mode → Tree → ℕ
 abbrev pub Skips : Type 0
 Skips = Mode → Tree → List Note
 
--- what is read is one of those meanings, and a refused node is one of the tree's
+-- what is read of a tree that a view can show is one of those meanings, and a refused node is one of the tree's
 pub record LawfulReading (P : Meaning → Type 0) (reads : Reads) (spot : Spots) : Type 0 where
-  pub meanings : (m : Mode) (t : Tree) (v : Meaning) → reads m t ≡ Ok v → P v
+  pub meanings : (m : Mode) (t : Tree) (v : Meaning) → IsNodeTree t → reads m t ≡ Ok v → P v
   pub inside : (m : Mode) (t : Tree) (e : DeError) → reads m t ≡ Err e → spot m t < size t
 
 -- a reader that refuses its own node alone

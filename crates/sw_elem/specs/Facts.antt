@@ -6,6 +6,7 @@ use Rattle.sw_tree.specs.declared.mode.Kind.{Kind}
 use Rattle.sw_tree.specs.declared.mode.Kind.TheVariants as kind
 use Rattle.sw_check.specs.declared.facts.Claims.{Claims}
 use Rattle.sw_check.specs.declared.facts.Facts.{Facts}
+use Rattle.sw_check.specs.declared.grade.Grade.{Grade}
 use Rattle.sw_check.specs.declared.grade.Grade.TheVariants.{Exact}
 
 -- that kind alone
@@ -32,6 +33,10 @@ with_kind s k = record {
   map = is_kind k kind.Map || s.map;
 }
 
+-- one kind and another
+abbrev pub either : Kind → Kind → Kinds
+either k j = with_kind (only k) j
+
 abbrev pub all_but_bytes : Kinds
 all_but_bytes = record { null = true; truth = true; int = true; text = true; bytes = false; list = true; map = true }
 
@@ -39,19 +44,23 @@ all_but_bytes = record { null = true; truth = true; int = true; text = true; byt
 abbrev pub stands : Bool → Bool → Claims
 stands key buffered_key = record { value = true; buffered_value = true; key = key; buffered_key = buffered_key; compact = true }
 
+-- those kinds written, and those read, in every mode
+abbrev pub told : Kinds → Kinds → Claims → Grade → Facts
+told written read c g = record { claims = c; written = written; read_value = read; read_key = read; read_buffered_key = read; grade = g }
+
 -- those kinds, written and read in every mode
 abbrev pub everywhere : Kinds → Claims → Facts
-everywhere ks c = record { claims = c; written = ks; read_value = ks; read_key = ks; read_buffered_key = ks; grade = Exact }
+everywhere ks c = told ks ks c Exact
 
 -- that kind, for which a text may stand as a key of JSON that isn't buffered; as a buffered key it doesn't stand
-abbrev pub keyed : Kind → Facts
-keyed k = record { claims = stands true false; written = only k; read_value = only k; read_key = with_kind (only k) kind.Text; read_buffered_key = only k; grade = Exact }
+abbrev pub keyed : Kind → Grade → Facts
+keyed k g = record { claims = stands true false; written = only k; read_value = only k; read_key = either k kind.Text; read_buffered_key = only k; grade = g }
 
 abbrev pub number_facts : Facts
-number_facts = keyed kind.Int
+number_facts = keyed kind.Int Exact
 
 abbrev pub truth_facts : Facts
-truth_facts = keyed kind.Bool
+truth_facts = keyed kind.Bool Exact
 
 -- of texts, and of characters by their texts
 abbrev pub text_facts : Facts

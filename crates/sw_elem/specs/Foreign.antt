@@ -1,6 +1,7 @@
 -- Trees whose keys are all texts and that have no byte string, and what other trees have.
 use Rattle.std.specs.Prelude.{◌≡◌, ℕ, ◌+◌, Bool, true, false, ◌&&◌, Option, Some, None, option_map, Result, Ok, Err}
 use Rattle.std.specs.Option.{option_or}
+use Rattle.sw_tree.specs.Proper.{IsNodeTree}
 use Rattle.sw_tree.specs.Meaning.{Meaning}
 use Rattle.sw_tree.specs.Meaning as meaning
 use Rattle.sw_tree.specs.Tree.{Tree, null, truth, int, text, bytes, list, map, Trees, no_trees, tree, Entries, no_entries, entry, size, kind_of}
@@ -88,7 +89,7 @@ number_of (Some f) = f.number
 abbrev pub any_spot : Spots
 any_spot m t = number_of (foreign t)
 
--- a tree that has no such node
+-- a tree that has no such node, and that a node can be
 abbrev pub IsAny : Meaning → Type 0
-IsAny (meaning.tree t) = is_any t ≡ true
+IsAny (meaning.tree t) = (is_any t ≡ true) × IsNodeTree t
 IsAny _ = ⊥

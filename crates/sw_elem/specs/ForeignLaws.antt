@@ -7,6 +7,7 @@ use Rattle.sw_tree.specs.Meaning as meaning
 use Rattle.sw_tree.specs.Tree.{Tree, null, truth, int, text, bytes, list, map, Trees, no_trees, tree, Entries, no_entries, entry, size, trees_size, entries_size}
 use Rattle.sw_tree.specs.declared.fail.DeError.{DeError}
 use Rattle.sw_elem.specs.Equations.{LawfulReading}
+use Rattle.sw_tree.specs.Proper.{IsNodeTree}
 use Rattle.sw_elem.specs.Foreign.{is_text, is_any, are_any, are_any_keyed, Foreign, further, foreign_key, foreign, foreign_items, foreign_entries, taken, any_reads, number_of, any_spot, IsAny}
 
 -- ---- a tree without such a node is one that is held
@@ -114,9 +115,9 @@ mutual
       (wider (size k) n (foreign_key k) (key_within k) (omega arith))
       (wider (size k + (size v + entries_size es)) n (further (size k) (option_or (foreign v) behind)) (further_within (size k) (size v + entries_size es) (option_or (foreign v) behind) values) (omega arith))
 
-taken_ok : (t : Tree) (o : Option Foreign) (v : Meaning) → foreign t ≡ o → taken t o ≡ Ok v → IsAny v
-taken_ok t None v e p = let k : meaning.tree t ≡ v = cc in subst IsAny k (none_foreign t e)
-taken_ok t (Some f) v e p = absurd (cc)
+taken_ok : (t : Tree) (o : Option Foreign) (v : Meaning) → IsNodeTree t → foreign t ≡ o → taken t o ≡ Ok v → IsAny v
+taken_ok t None v n e p = let k : meaning.tree t ≡ v = cc in subst IsAny k (none_foreign t e, n)
+taken_ok t (Some f) v n e p = absurd (cc)
 
 inside : (t : Tree) (o : Option Foreign) (e : DeError) (n : ℕ) → Within n o → taken t o ≡ Err e → number_of o < n
 inside t None e n h p = absurd (cc)
@@ -124,6 +125,6 @@ inside t (Some f) e n h p = h
 
 pub any_lawful : LawfulReading IsAny any_reads any_spot
 any_lawful = record {
-  meanings = λ m t v p. taken_ok t (foreign t) v refl p;
+  meanings = λ m t v n p. taken_ok t (foreign t) v n refl p;
   inside = λ m t e p. inside t (foreign t) e (size t) (foreign_within t) p;
 }

@@ -12,6 +12,7 @@ use Rattle.sw_tree.specs.Meaning.{Meaning, number, truth}
 use Rattle.sw_tree.specs.Meant.{IsBelow, IsSigned, IsTruth}
 use Rattle.sw_tree.specs.Number.{key_number}
 use Rattle.sw_tree.specs.NumberLaws.{IsInRange, key_number-signed_decimal}
+use Rattle.sw_tree.specs.Proper.{IsNodeTree}
 use Rattle.sw_tree.specs.Steps.{bind}
 use Rattle.sw_tree.specs.Tree.{Tree, int_at, truth_at, kind_of}
 use Rattle.sw_tree.specs.Tree as node
@@ -25,14 +26,15 @@ use Rattle.sw_tree.specs.declared.mode.Kind.TheVariants as kind
 use Rattle.sw_tree.specs.declared.fail.DeError.{DeError}
 use Rattle.sw_tree.specs.declared.fail.DeError.TheVariants as fail
 use Rattle.sw_check.specs.Facts.{claims_at, read_at}
-use Rattle.sw_check.specs.Form.{leaf}
 use Rattle.sw_elem.specs.DecimalLaws.{is_within-decides, half_most}
-use Rattle.sw_elem.specs.Equations.{own_spot, no_skips}
-use Rattle.sw_elem.specs.Facts.{only, with_kind, stands, keyed, number_facts, truth_facts}
+use Rattle.sw_elem.specs.Equations.{own_spot}
+use Rattle.sw_check.specs.declared.grade.Grade.{Grade}
+use Rattle.sw_check.specs.declared.grade.Grade.TheVariants.{Exact}
+use Rattle.sw_elem.specs.Facts.{only, either, stands, keyed, number_facts, truth_facts}
 use Rattle.sw_elem.specs.KeyPlace.{is_plain_key, key_text, keyed_reads}
 use Rattle.sw_elem.specs.Laws.{HasSpotKinds}
-use Rattle.sw_elem.specs.Lawful.{Lawful, same_norm}
-use Rattle.sw_elem.specs.Leaf.{IsBack, IsLeaf, own_kind, leaf_lawful}
+use Rattle.sw_elem.specs.Lawful.{LawfulLeaf, same_norm}
+use Rattle.sw_elem.specs.Leaf.{IsBack, IsLeaf, own_kind, keeps_leaf}
 use Rattle.sw_elem.specs.Numbers.{number_writes, is_below, is_within, ranged, number_reads}
 use Rattle.sw_elem.specs.Truths.{truth_named, truth_writes, truth_reads}
 
@@ -47,7 +49,7 @@ only_has kind.Bytes = refl
 only_has kind.List = refl
 only_has kind.Map = refl
 
-or_text_has : (k : Kind) → has (with_kind (only k) kind.Text) k ≡ true
+or_text_has : (k : Kind) → has (either k kind.Text) k ≡ true
 or_text_has kind.Null = refl
 or_text_has kind.Bool = refl
 or_text_has kind.Int = refl
@@ -56,18 +58,18 @@ or_text_has kind.Bytes = refl
 or_text_has kind.List = refl
 or_text_has kind.Map = refl
 
-own_read : (k : Kind) (w : WireKind) (p : Place) (b : Bool) → has (read_at (keyed k) (record { wire = w; place = p; buffered = b })) k ≡ true
-own_read k Json Value b = only_has k
-own_read k Json Key false = or_text_has k
-own_read k Json Key true = only_has k
-own_read k Compact p b = only_has k
+own_read : (k : Kind) (g : Grade) (w : WireKind) (p : Place) (b : Bool) → has (read_at (keyed k g) (record { wire = w; place = p; buffered = b })) k ≡ true
+own_read k g Json Value b = only_has k
+own_read k g Json Key false = or_text_has k
+own_read k g Json Key true = only_has k
+own_read k g Compact p b = only_has k
 
-text_read : (k : Kind) (w : WireKind) (p : Place) (b : Bool) → is_plain_key (record { wire = w; place = p; buffered = b }) ≡ true → has (read_at (keyed k) (record { wire = w; place = p; buffered = b })) kind.Text ≡ true
-text_read k Json Key false h = refl
-text_read k Json Key true h = absurd (cc)
-text_read k Json Value b h = absurd (cc)
-text_read k Compact Value b h = absurd (cc)
-text_read k Compact Key b h = absurd (cc)
+text_read : (k : Kind) (g : Grade) (w : WireKind) (p : Place) (b : Bool) → is_plain_key (record { wire = w; place = p; buffered = b }) ≡ true → has (read_at (keyed k g) (record { wire = w; place = p; buffered = b })) kind.Text ≡ true
+text_read k g Json Key false h = refl
+text_read k g Json Key true h = absurd (cc)
+text_read k g Json Value b h = absurd (cc)
+text_read k g Compact Value b h = absurd (cc)
+text_read k g Compact Key b h = absurd (cc)
 
 plain_text : (b : Bool) (s q : List ℕ) → (if b then Some s else None) ≡ Some q → b ≡ true
 plain_text true s q h = refl
@@ -78,14 +80,14 @@ key_texted : (m : Mode) (t : Tree) (q : List ℕ) → key_text m t ≡ Some q �
 key_texted m (node.text s) q h = (refl, plain_text (is_plain_key m) s q h)
 key_texted m _ q h = absurd (cc)
 
-module _ {A : Type 0} (own : Tree → Option A) (named : List ℕ → Option A) (k : Kind) (is : (t : Tree) (a : A) → own t ≡ Some a → kind_of t ≡ k) (g : A → Result Meaning DeError) where
+module _ {A : Type 0} (own : Tree → Option A) (named : List ℕ → Option A) (k : Kind) (grade : Grade) (is : (t : Tree) (a : A) → own t ≡ Some a → kind_of t ≡ k) (g : A → Result Meaning DeError) where
   read_kind : (m : Mode) (t : Tree) (a : Option A) (s : Option (List ℕ)) (e : DeError) (v : Meaning) →
-      own t ≡ a → key_text m t ≡ s → bind (ok_or (option_or a (option_and_then named s)) e) g ≡ Ok v → has (read_at (keyed k) m) (kind_of t) ≡ true
-  read_kind m t (Some a) s e v h q p = ap (has (read_at (keyed k) m)) (is t a h) ∙ own_read k m.wire m.place m.buffered
-  read_kind m t None (Some s) e v h q p = let c = key_texted m t s q in ap (has (read_at (keyed k) m)) c.0 ∙ text_read k m.wire m.place m.buffered c.1
+      own t ≡ a → key_text m t ≡ s → bind (ok_or (option_or a (option_and_then named s)) e) g ≡ Ok v → has (read_at (keyed k grade) m) (kind_of t) ≡ true
+  read_kind m t (Some a) s e v h q p = ap (has (read_at (keyed k grade) m)) (is t a h) ∙ own_read k grade m.wire m.place m.buffered
+  read_kind m t None (Some s) e v h q p = let c = key_texted m t s q in ap (has (read_at (keyed k grade) m)) c.0 ∙ text_read k grade m.wire m.place m.buffered c.1
   read_kind m t None None e v h q p = absurd (cc)
 
-  pub keyed_read : (m : Mode) (t : Tree) (v : Meaning) → bind (keyed_reads own named m t) g ≡ Ok v → has (read_at (keyed k) m) (kind_of t) ≡ true
+  pub keyed_read : (m : Mode) (t : Tree) (v : Meaning) → bind (keyed_reads own named m t) g ≡ Ok v → has (read_at (keyed k grade) m) (kind_of t) ≡ true
   keyed_read m t v p = read_kind m t (own t) (key_text m t) (fail.InvalidType (kind_of t)) v refl refl p
 
 module _ {A : Type 0} (g : A → Result Meaning DeError) (never : (a : A) (k : Kind) → g a ≡ Err (fail.InvalidType k) → ⊥) where
@@ -130,7 +132,7 @@ module _ (fits : ℤ → Bool) (n : ℤ) (inside : fits n ≡ true) (r : IsInRan
   number_claimed Json Key true h = absurd (cc)
 
 -- every meaning is a number that fits the type, and a tree
-abbrev AreNumbers : (ℤ → Bool) → (Meaning → Type 0) → Type 0
+abbrev pub AreNumbers : (ℤ → Bool) → (Meaning → Type 0) → Type 0
 AreNumbers fits P = (v : Meaning) → P v → (n : ℤ) × (v ≡ number n) × (fits n ≡ true) × IsInRange n
 
 module _ (fits : ℤ → Bool) (P : Meaning → Type 0) (are : AreNumbers fits P) where
@@ -144,23 +146,32 @@ module _ (fits : ℤ → Bool) (P : Meaning → Type 0) (are : AreNumbers fits P
   unfolding number_node
   number_kind v h = let n = are v h in ap (λ (u : Meaning). has (only kind.Int) (kind_of (number_node u))) n.1
 
+  number_nodes : (v : Meaning) → P v → IsNodeTree (number_node v)
+  unfolding number_node
+  number_nodes v h =
+      let n = are v h in
+      let is : IsNodeTree (node.int n.0) = record { proper = n.3; shallow = omega arith } in
+      subst (λ (u : Meaning). IsNodeTree (number_node u)) (sym n.1) is
+
   number_leaf : IsLeaf P number_writes (number_reads fits) own_spot number_facts number_node
   number_leaf = record {
     writing = number_written;
     back = number_back;
     written = number_kind;
-    read = λ m t v p. keyed_read int_at key_number kind.Int int_kind (ranged fits) m t v p;
+    nodes = number_nodes;
+    read = λ m t v p. keyed_read int_at key_number kind.Int Exact int_kind (ranged fits) m t v p;
     spots = λ m. keyed_spots (ranged fits) (λ n k p. ranged_never (fits n) (number n) k p) int_at key_number m;
   }
 
-  number_keeps : Lawful P number_writes (number_reads fits) own_spot no_skips (leaf number_facts) same_norm (Unit {0})
-  number_keeps = leaf_lawful P number_writes (number_reads fits) own_spot number_facts number_node number_leaf
+  -- numbers of any range keep the laws of a leaf
+  pub number_keeps : LawfulLeaf P number_writes (number_reads fits) own_spot number_facts same_norm (Unit {0})
+  number_keeps = keeps_leaf P number_writes (number_reads fits) own_spot number_facts number_node number_leaf
 
 below_are : (limit : ℕ) → limit ≤ 2 ^ 128 → AreNumbers (is_below limit) (IsBelow limit)
 below_are limit most (number (pos n)) h = (pos n, refl, (Decides-ltb n limit).1 h, omega arith)
 below_are limit most _ h = absurd h
 
-pub unsigned_keeps : (limit : ℕ) → limit ≤ 2 ^ 128 → Lawful (IsBelow limit) number_writes (number_reads (is_below limit)) own_spot no_skips (leaf number_facts) same_norm (Unit {0})
+pub unsigned_keeps : (limit : ℕ) → limit ≤ 2 ^ 128 → LawfulLeaf (IsBelow limit) number_writes (number_reads (is_below limit)) own_spot number_facts same_norm (Unit {0})
 unsigned_keeps limit most = number_keeps (is_below limit) (IsBelow limit) (below_are limit most)
 
 signed_are : (w : Width) → AreNumbers (is_within (2 ^ hbits w)) (IsSigned w)
@@ -168,7 +179,7 @@ signed_are w (number (pos n)) h = let e : n < 2 ^ hbits w = h.sfits in (pos n, r
 signed_are w (number (negsuc n)) h = let e : n < 2 ^ hbits w = h.sfits in (negsuc n, refl, (is_within-decides (2 ^ hbits w) (negsuc n)).1 e, omega (arith, half_most w))
 signed_are w _ h = absurd h
 
-pub signed_keeps : (w : Width) → Lawful (IsSigned w) number_writes (number_reads (is_within (2 ^ hbits w))) own_spot no_skips (leaf number_facts) same_norm (Unit {0})
+pub signed_keeps : (w : Width) → LawfulLeaf (IsSigned w) number_writes (number_reads (is_within (2 ^ hbits w))) own_spot number_facts same_norm (Unit {0})
 signed_keeps w = number_keeps (is_within (2 ^ hbits w)) (IsSigned w) (signed_are w)
 
 -- ---- truth values
@@ -204,14 +215,20 @@ unfolding truth_node
 truth_is (truth b) h = refl
 truth_is _ h = absurd h
 
+truth_nodes : (v : Meaning) → IsTruth v → IsNodeTree (truth_node v)
+unfolding truth_node
+truth_nodes (truth b) h = record { proper = tt; shallow = omega arith }
+truth_nodes _ h = absurd h
+
 truth_leaf : IsLeaf IsTruth truth_writes truth_reads own_spot truth_facts truth_node
 truth_leaf = record {
   writing = truth_written;
   back = truth_back;
   written = truth_is;
-  read = λ m t v p. keyed_read truth_at truth_named kind.Bool truth_kind (λ b. Ok (truth b)) m t v p;
+  nodes = truth_nodes;
+  read = λ m t v p. keyed_read truth_at truth_named kind.Bool Exact truth_kind (λ b. Ok (truth b)) m t v p;
   spots = λ m. keyed_spots (λ (b : Bool). Ok (truth b)) (λ b k p. cc) truth_at truth_named m;
 }
 
-pub truth_keeps : Lawful IsTruth truth_writes truth_reads own_spot no_skips (leaf truth_facts) same_norm (Unit {0})
-truth_keeps = leaf_lawful IsTruth truth_writes truth_reads own_spot truth_facts truth_node truth_leaf
+pub truth_keeps : LawfulLeaf IsTruth truth_writes truth_reads own_spot truth_facts same_norm (Unit {0})
+truth_keeps = keeps_leaf IsTruth truth_writes truth_reads own_spot truth_facts truth_node truth_leaf

@@ -11,6 +11,7 @@ use Rattle.sw_tree.specs.declared.fail.SerError.TheVariants.{Key}
 use Rattle.sw_tree.specs.declared.fail.DeError.TheVariants.{InvalidType}
 use Rattle.sw_elem.specs.Equations.{Writes, Reads, Spots, Skips}
 use Rattle.sw_tree.specs.Nodes.{kinds, HasKind, IsNoteIn}
+use Rattle.sw_tree.specs.Proper.{IsNodeTree}
 
 -- what reading back gives of a meaning
 abbrev pub Norm : Type 0
@@ -38,6 +39,14 @@ ReadsKind reads m k = (t : Tree) (v : Meaning) → reads m t ≡ Ok v → kind_o
 -- the buffered mark changes nothing that is written
 abbrev pub IsUnmarked : Writes → Type 0
 IsUnmarked writes = (m : Mode) (v : Meaning) → writes (marked m) v ≡ writes m v
+
+-- what is written is a tree that a node can be
+abbrev pub WritesNodes : (Meaning → Type 0) → Writes → Type 0
+WritesNodes P writes = (m : Mode) (v : Meaning) (t : Tree) → P v → writes m v ≡ Ok t → IsNodeTree t
+
+-- the norm of one of those meanings is one of them
+abbrev pub NormsWithin : (Meaning → Type 0) → Norm → Type 0
+NormsWithin P norm = (m : Mode) (v : Meaning) → P v → P (norm m v)
 
 -- the norm changes nothing
 abbrev pub IsExact : (Meaning → Type 0) → Norm → Mode → Type 0

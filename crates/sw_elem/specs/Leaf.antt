@@ -1,10 +1,11 @@
--- The laws of a type that writes a value as the same tree in every mode, and reads it back wherever it claims to.
-use Rattle.std.specs.Prelude.{◌≡◌, Bool, true, false, not, cond, Some, None, Ok}
-use Rattle.std.proofs.Common.{refl, ap, ◌∙◌}
+-- The laws of an expression that is a leaf, from those of what stands there; and of a type that writes a value as the same tree in every mode.
+use Rattle.std.specs.Prelude.{◌≡◌, [], Bool, true, false, not, cond, Some, None, Ok}
+use Rattle.std.proofs.Common.{refl, ap, subst, ◌∙◌}
 use Rattle.sw_tree.specs.Image.{image}
 use Rattle.sw_tree.specs.Meaning.{Meaning}
 use Rattle.sw_tree.specs.Nodes.{kinds, HasKind}
 use Rattle.sw_tree.specs.Kinds.{has}
+use Rattle.sw_tree.specs.Proper.{IsNodeTree}
 use Rattle.sw_tree.specs.Tree.{Tree, null, truth, int, text, bytes, list, map, kind_of}
 use Rattle.sw_tree.specs.declared.kinds.Kinds.{Kinds}
 use Rattle.sw_tree.specs.declared.mode.Mode.{Mode}
@@ -20,10 +21,10 @@ use Rattle.sw_check.specs.Blame.{here, IsSound}
 use Rattle.sw_check.specs.declared.facts.Claims.{Claims}
 use Rattle.sw_check.specs.declared.facts.Facts.{Facts}
 use Rattle.sw_check.specs.declared.rule.Rule.TheVariants.{S1, S2}
-use Rattle.sw_elem.specs.Equations.{Writes, Reads, Spots, no_skips}
+use Rattle.sw_elem.specs.Equations.{Writes, Reads, Spots, Skips}
 use Rattle.sw_elem.specs.Facts.{everywhere}
-use Rattle.sw_elem.specs.Laws.{HasSpotKinds}
-use Rattle.sw_elem.specs.Lawful.{Lawful, same_norm}
+use Rattle.sw_elem.specs.Laws.{Norm, HasSpotKinds}
+use Rattle.sw_elem.specs.Lawful.{Lawful, LawfulLeaf, same_norm}
 
 -- the tree has an image in the mode, which is read as that meaning
 abbrev pub IsBack : Reads → Mode → Tree → Meaning → Type 0
@@ -34,6 +35,7 @@ pub record IsLeaf (P : Meaning → Type 0) (writes : Writes) (reads : Reads) (sp
   pub writing : (m : Mode) (v : Meaning) → writes m v ≡ Ok (node v)
   pub back : (m : Mode) → claims_at f.claims m ≡ true → (v : Meaning) → P v → IsBack reads m (node v) v
   pub written : (v : Meaning) → P v → has f.written (kind_of (node v)) ≡ true
+  pub nodes : (v : Meaning) → P v → IsNodeTree (node v)
   pub read : (m : Mode) (t : Tree) (v : Meaning) → reads m t ≡ Ok v → has (read_at f m) (kind_of t) ≡ true
   pub spots : (m : Mode) → HasSpotKinds reads spot m
 
@@ -70,15 +72,35 @@ module _ (P : Meaning → Type 0) (writes : Writes) (reads : Reads) (spot : Spot
   same : (m : Mode) (v : Meaning) (t : Tree) → writes m v ≡ Ok t → node v ≡ t
   same m v t p = let e = is.writing m v in cc
 
-  pub leaf_lawful : Lawful P writes reads spot no_skips (leaf f) same_norm (Unit {0})
-  leaf_lawful = record {
-    images = λ m s v t h p. let b = is.back m (claimed f m s) v h in let e = same m v t p in (b.0, cc (ap (image m.wire m.place) e, b.1));
-    back = λ u m s v t i h p q. let b = is.back m (claimed f m s) v h in let e = same m v t p in cc (ap (image m.wire m.place) e, b.1, b.2);
-    never_key = λ m s v h p. let e = is.writing m v in cc;
+  -- such a type keeps the laws of a leaf
+  pub keeps_leaf : LawfulLeaf P writes reads spot f same_norm (Unit {0})
+  keeps_leaf = record {
+    images = λ m c v t h p. let b = is.back m c v h in let e = same m v t p in (b.0, cc (ap (image m.wire m.place) e, b.1));
+    back = λ u m c v t i h p q. let b = is.back m c v h in let e = same m v t p in cc (ap (image m.wire m.place) e, b.1, b.2);
+    never_key = λ m c v h p. let e = is.writing m v in cc;
     written_kinds = λ m v t h p. let w = is.written v h in let e = same m v t p in cc (ap (λ u. has f.written (kind_of u)) e);
     read_kinds = is.read;
     unmarked = λ m v. cc (is.writing _ v, is.writing m v);
-    exact = λ m g v h. refl;
+    exact = λ g m v h. refl;
     spot_kinds = is.spots;
-    note_kinds = λ m t. tt;
+    nodes = λ m v t h p. subst IsNodeTree (same m v t p) (is.nodes v h);
+    norms = λ m v h. h;
+  }
+
+module _ (P : Meaning → Type 0) (writes : Writes) (reads : Reads) (spot : Spots) (skips : Skips) (f : Facts) (norm : Norm) (assumes : Type 0)
+    (law : LawfulLeaf P writes reads spot f norm assumes) (passes : (m : Mode) (t : Tree) → skips m t ≡ []) where
+  -- what keeps the laws of a leaf and passes nothing over is lawful under the expression that is that leaf
+  pub leaf_lawful : Lawful P writes reads spot skips (leaf f) norm assumes
+  leaf_lawful = record {
+    images = λ m s. law.images m (claimed f m s);
+    back = λ a m s. law.back a m (claimed f m s);
+    never_key = λ m s. law.never_key m (claimed f m s);
+    written_kinds = law.written_kinds;
+    read_kinds = law.read_kinds;
+    unmarked = law.unmarked;
+    exact = λ m g. law.exact g m;
+    spot_kinds = law.spot_kinds;
+    note_kinds = λ m t. rw (passes m t) tt;
+    nodes = law.nodes;
+    norms = law.norms;
   }

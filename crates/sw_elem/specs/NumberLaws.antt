@@ -24,7 +24,7 @@ module _ (fits : ℤ → Bool) (P : Meaning → Type 0) (is : (n : ℤ) → fits
   number_meanings m t v p = let q = bind_ok (keyed_reads int_at key_number m t) (ranged fits) v p in in_range q.0 (fits q.0) refl v q.2
 
   pub number_lawful : LawfulReading P (number_reads fits) own_spot
-  number_lawful = record { meanings = number_meanings; inside = λ m t e p. own_spot-inside m t }
+  number_lawful = record { meanings = λ m t v n p. number_meanings m t v p; inside = λ m t e p. own_spot-inside m t }
 
 unsigned_is : (limit : ℕ) (n : ℤ) → is_below limit n ≡ true → IsBelow limit (number n)
 unsigned_is limit (pos n) h = ltb-true n limit h

@@ -1,5 +1,6 @@
 -- What the calls of a text form answer, and its law.
 use Rattle.std.specs.Prelude.{◌≡◌, ℕ, List, Option, Some, None, Result, Ok, Err}
+use Rattle.std.specs.Str.{IsUtf8}
 use Rattle.sw_tree.specs.Meaning.{Meaning}
 use Rattle.sw_check.specs.TextClass.{IsOfClass}
 use Rattle.sw_check.specs.declared.class.TextClass.{TextClass}
@@ -23,8 +24,9 @@ ParsesFreely (Ok x) = Unit {0}
 ParsesFreely (Err fail.Refused) = Unit {0}
 ParsesFreely (Err fail.Memory) = ⊥
 
--- what is shown of one of the type's meanings parses as it and is of the class, and what parses is one of them
+-- what is shown of one of the type's meanings parses as it, is of the class, and is UTF-8; and what parses of a text that is UTF-8 is one of them
 pub record LawfulText (P : Meaning → Type 0) (shows : Meaning → List ℕ) (parses : List ℕ → Option Meaning) (class : TextClass) : Type 0 where
   pub shown : (v : Meaning) → P v → parses (shows v) ≡ Some v
   pub classed : (v : Meaning) → P v → IsOfClass class (shows v)
-  pub parsed : (s : List ℕ) (v : Meaning) → parses s ≡ Some v → P v
+  pub utf8 : (v : Meaning) → P v → IsUtf8 (shows v)
+  pub parsed : (s : List ℕ) (v : Meaning) → IsUtf8 s → parses s ≡ Some v → P v

@@ -3,12 +3,14 @@ use Rattle.std.specs.Prelude.{◌≡◌, ℕ, List, [], ◌∷◌, Bool, true, f
 use Rattle.std.proofs.Common.{refl, ap, sym, subst, ◌∙◌, append-nil, arith}
 use Rattle.std.specs.Option.{ok_or}
 use Rattle.std.specs.Char.{IsScalar, encode_utf8}
-use Rattle.std.specs.Str.{chars, is_utf8, all_scalars, encode_utf8_all}
+use Rattle.std.specs.Str.{IsUtf8, chars, is_utf8, all_scalars, encode_utf8_all}
 use lib.Utf8.{scalar}
 use Rattle.std.proofs.lemmas.Bool.{eqb-true}
 use Rattle.std.proofs.lemmas.Str.{IsUtf8-from_is_utf8, is_utf8-from_IsUtf8, IsUtf8-encode, chars_from_encodes, chars_past_char, chars-nil}
 use Rattle.sw_tree.specs.Meaning.{Meaning, nothing, truth, text}
 use Rattle.sw_tree.specs.Meant.{IsNothing, IsTruth, IsText, IsCharText}
+use Rattle.sw_tree.specs.Proper.{IsNodeTree}
+use Rattle.sw_tree.specs.Utf8.{bool_text-utf8}
 use Rattle.sw_tree.specs.Steps.{bind_ok}
 use Rattle.sw_tree.specs.Tree.{Tree, truth_at, kind_of}
 use Rattle.sw_tree.specs.Tree as node
@@ -35,7 +37,7 @@ truth_meanings m t v p =
     subst IsTruth e tt
 
 pub truth_reading_lawful : LawfulReading IsTruth truth_reads own_spot
-truth_reading_lawful = record { meanings = truth_meanings; inside = λ m t e p. own_spot-inside m t }
+truth_reading_lawful = record { meanings = λ m t v n p. truth_meanings m t v p; inside = λ m t e p. own_spot-inside m t }
 
 truth_parsed : (o : Option Bool) (v : Meaning) → option_map truth o ≡ Some v → IsTruth v
 truth_parsed None v p = absurd (cc)
@@ -50,8 +52,12 @@ truth_is_classed : (v : Meaning) → IsTruth v → IsOfClass truth_class (truth_
 truth_is_classed (truth b) h = truth_classed b
 truth_is_classed _ h = absurd h
 
+truth_utf8 : (v : Meaning) → IsTruth v → IsUtf8 (truth_shows v)
+truth_utf8 (truth b) h = bool_text-utf8 b
+truth_utf8 _ h = absurd h
+
 pub truth_lawful : LawfulText IsTruth truth_shows truth_parses truth_class
-truth_lawful = record { shown = truth_shown; classed = truth_is_classed; parsed = λ s v p. truth_parsed (truth_named s) v p }
+truth_lawful = record { shown = truth_shown; classed = truth_is_classed; utf8 = truth_utf8; parsed = λ s v u p. truth_parsed (truth_named s) v p }
 
 -- ---- texts, and what they stand for
 
@@ -59,10 +65,10 @@ parsed_ok : (o : Option Meaning) (e : DeError) (v : Meaning) → ok_or o e ≡ O
 parsed_ok (Some w) e v p = cc
 parsed_ok None e v p = absurd (cc)
 
-module _ (P : Meaning → Type 0) (parses : List ℕ → Option Meaning) (e : DeError) (parsed : (s : List ℕ) (v : Meaning) → parses s ≡ Some v → P v) where
-  texted_meanings : (m : Mode) (t : Tree) (v : Meaning) → texted_reads parses e m t ≡ Ok v → P v
-  texted_meanings m (node.text s) v p = parsed s v (parsed_ok (parses s) e v p)
-  texted_meanings m _ v p = absurd (cc)
+module _ (P : Meaning → Type 0) (parses : List ℕ → Option Meaning) (e : DeError) (parsed : (s : List ℕ) (v : Meaning) → IsUtf8 s → parses s ≡ Some v → P v) where
+  texted_meanings : (m : Mode) (t : Tree) (v : Meaning) → IsNodeTree t → texted_reads parses e m t ≡ Ok v → P v
+  texted_meanings m (node.text s) v n p = parsed s v n.proper (parsed_ok (parses s) e v p)
+  texted_meanings m _ v n p = absurd (cc)
 
   texted_lawful : LawfulReading P (texted_reads parses e) own_spot
   texted_lawful = record { meanings = texted_meanings; inside = λ m t d p. own_spot-inside m t }
@@ -72,11 +78,18 @@ chosen P x v true h p = let k : x ≡ v = cc in subst P k (h refl)
 chosen P x v false h p = absurd (cc)
 
 text_shown : (v : Meaning) → IsText v → text_parses (text_shows v) ≡ Some v
-text_shown (text s) h = rw h refl
+text_shown (text s) h = refl
 text_shown _ h = absurd h
 
+text_utf8 : (v : Meaning) → IsText v → IsUtf8 (text_shows v)
+text_utf8 (text s) h = IsUtf8-from_is_utf8 s h
+text_utf8 _ h = absurd h
+
+text_parsed : (s : List ℕ) (v : Meaning) → IsUtf8 s → text_parses s ≡ Some v → IsText v
+text_parsed s v u p = let e : text s ≡ v = cc in subst IsText e (is_utf8-from_IsUtf8 s u)
+
 pub text_lawful : LawfulText IsText text_shows text_parses (byte_class false)
-text_lawful = record { shown = text_shown; classed = λ v h. text_classed (text_shows v); parsed = λ s v p. chosen IsText (text s) v (is_utf8 s) (λ h. h) p }
+text_lawful = record { shown = text_shown; classed = λ v h. text_classed (text_shows v); utf8 = text_utf8; parsed = text_parsed }
 
 pub text_reading_lawful : LawfulReading IsText text_reads own_spot
 text_reading_lawful = texted_lawful IsText text_parses (fail.InvalidType kind.Text) text_lawful.parsed
@@ -109,8 +122,12 @@ character_is_classed : (v : Meaning) → IsCharText v → IsOfClass (byte_class 
 character_is_classed (text s) h = subst (IsOfClass (byte_class true)) (sym h.2) (character_classed h.0)
 character_is_classed _ h = absurd h
 
+character_utf8 : (v : Meaning) → IsCharText v → IsUtf8 (text_shows v)
+character_utf8 (text s) h = subst IsUtf8 (sym h.2) (IsUtf8-encode h.0 h.1)
+character_utf8 _ h = absurd h
+
 pub character_lawful : LawfulText IsCharText text_shows character_parses (byte_class true)
-character_lawful = record { shown = character_shown; classed = character_is_classed; parsed = λ s v p. chosen IsCharText (text s) v (is_character s) (character_is s) p }
+character_lawful = record { shown = character_shown; classed = character_is_classed; utf8 = character_utf8; parsed = λ s v u p. chosen IsCharText (text s) v (is_character s) (character_is s) p }
 
 pub character_reading_lawful : LawfulReading IsCharText character_reads own_spot
 character_reading_lawful = texted_lawful IsCharText character_parses fail.InvalidValue character_lawful.parsed
@@ -122,4 +139,4 @@ nothing_there kind.Null v p = let e : nothing ≡ v = cc in subst IsNothing e tt
 nothing_there _ v p = absurd (cc)
 
 pub nothing_lawful : LawfulReading IsNothing nothing_reads own_spot
-nothing_lawful = record { meanings = λ m t v p. nothing_there (kind_of t) v p; inside = λ m t e p. own_spot-inside m t }
+nothing_lawful = record { meanings = λ m t v n p. nothing_there (kind_of t) v p; inside = λ m t e p. own_spot-inside m t }

@@ -25,9 +25,8 @@ abbrev pub text_shows : Meaning → List ℕ
 text_shows (text s) = s
 text_shows _ = []
 
--- the text, as every text of a document is UTF-8
 abbrev pub text_parses : List ℕ → Option Meaning
-text_parses s = if is_utf8 s then Some (text s) else None
+text_parses s = Some (text s)
 
 abbrev pub text_reads : Reads
 text_reads = texted_reads text_parses (fail.InvalidType kind.Text)

@@ -1,4 +1,6 @@
 ghost use Rattle.std.specs.Prelude.{◌≡◌, true};
+ghost use Rattle.sw_tree.specs.Proper.{IsNodeTree};
+ghost use Rattle.sw_tree.specs.ProperLaws.{IsNodeTree-prop};
 ghost use Rattle.sw_elem.specs.Foreign as foreign;
 
 use crate::element::Element;
@@ -19,6 +21,7 @@ use sw_tree::view::View;
 pub struct Any {
     node: Node,
     ghost held: { foreign.is_any node ≡ true },
+    ghost bounded: { IsNodeTree node } by { IsNodeTree-prop node },
 }
 
 impl Any {
@@ -32,6 +35,7 @@ impl Any {
             (λ a. (a.node ≡ node) × (foreign.is_any node ≡ true))
             (λ n. (n ≡ node) × (foreign.is_any node ≡ false)) }
     {
+        let _kind = node.kind();
         if is_any(&node) {
             Ok(Any { node })
         } else {
@@ -57,11 +61,9 @@ impl Named for Any {
 }
 
 impl Meant for Any {
-    ghost use Rattle.sw_tree.specs.Meant.{Always};
-
-    ghost in_hand = { Always };
-
-    ghost meaning_is = { λ a h. a.held };
+    fn in_hand(&self) {
+        let _kind = self.node.kind();
+    }
 }
 
 impl Serialize for Any {
@@ -81,6 +83,7 @@ impl Serialize for Any {
 /// or a key that is no text is refused as `InvalidType` of its kind.
 impl Deserialize for Any {
     ghost use Rattle.std.specs.Prelude.{false};
+    ghost use Rattle.sw_elem.specs.Equations.{no_skips};
     ghost use Rattle.sw_elem.specs.Foreign.{any_reads, any_spot};
     ghost use Rattle.sw_elem.specs.ForeignLaws.{any_lawful};
 
@@ -91,6 +94,8 @@ impl Deserialize for Any {
     ghost reads = { any_reads };
 
     ghost spot = { any_spot };
+
+    ghost skips = { no_skips };
 
     #[tactic(auto, using(crate::proofs::Foreigns::any_answers))]
     fn deserialize(
@@ -103,7 +108,10 @@ impl Deserialize for Any {
             return Err(DeFail::Refused(refusal));
         }
         match view.to_node(alloc) {
-            Ok(node) => Ok(Any { node }),
+            Ok(node) => {
+                let _kind = node.kind();
+                Ok(Any { node })
+            }
             Err(_) => Err(DeFail::Memory),
         }
     }
@@ -112,6 +120,7 @@ impl Deserialize for Any {
 }
 
 impl Element for Any {
+    ghost use Rattle.std.specs.Prelude.{refl};
     ghost use Rattle.sw_elem.specs.Facts.{any_facts};
     ghost use Rattle.sw_elem.specs.AnyLeaf.{any_keeps};
 
@@ -122,4 +131,6 @@ impl Element for Any {
     }
 
     ghost keeps = { any_keeps };
+
+    ghost passes_nothing = { λ _ _. refl };
 }

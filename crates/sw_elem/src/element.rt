@@ -4,13 +4,14 @@ use sw_check::facts::Facts;
 /// A type that writes and reads itself by the laws.
 ///
 /// It names its facts: the modes in which what is written reads back, the kinds that are written and
-/// read, and its grade.
+/// read, and its grade. In each mode that it claims what it writes has an image, which reads back. It
+/// passes nothing over.
 pub trait Element: Serialize + Deserialize {
-    ghost use Rattle.std.specs.Prelude.{◌≡◌};
+    ghost use Rattle.std.specs.Prelude.{◌≡◌, []};
+    ghost use Rattle.sw_tree.specs.Tree.{Tree};
+    ghost use Rattle.sw_tree.specs.declared.mode.Mode.{Mode};
     ghost use Rattle.sw_check.specs.declared.facts.Facts.{Facts};
-    ghost use Rattle.sw_check.specs.Form.{leaf};
-    ghost use Rattle.sw_elem.specs.Equations.{no_skips};
-    ghost use Rattle.sw_elem.specs.Lawful.{Lawful, same_norm};
+    ghost use Rattle.sw_elem.specs.Lawful.{LawfulLeaf, same_norm};
 
     ghost known: { Facts };
 
@@ -18,5 +19,7 @@ pub trait Element: Serialize + Deserialize {
     fn facts() -> Facts
         ensures { result ≡ known };
 
-    ghost keeps: { Lawful Self.is_meaning Self.writes Self.reads Self.spot no_skips (leaf known) same_norm (Unit {0}) };
+    ghost keeps: { LawfulLeaf Self.is_meaning Self.writes Self.reads Self.spot known same_norm (Unit {0}) };
+
+    ghost passes_nothing: { (m : Mode) (t : Tree) → Self.skips m t ≡ [] };
 }

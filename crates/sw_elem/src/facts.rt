@@ -1,4 +1,4 @@
-//! What is known of the types that write and read themselves.
+//! What is known of the types that stand at the leaves: sets of kinds, claims, and facts over them.
 
 ghost use Rattle.std.specs.Prelude.{◌≡◌};
 ghost use Rattle.sw_elem.specs.Facts as facts;
@@ -13,14 +13,14 @@ use sw_tree::mode::Kind;
 pub fn number_facts() -> Facts
     ensures { result ≡ facts.number_facts }
 {
-    keyed(Kind::Int)
+    keyed(Kind::Int, Grade::Exact)
 }
 
 /// Of truth values: as of numbers.
 pub fn truth_facts() -> Facts
     ensures { result ≡ facts.truth_facts }
 {
-    keyed(Kind::Bool)
+    keyed(Kind::Bool, Grade::Exact)
 }
 
 /// Of texts, and of what is written as its text: written as texts, and read from them, in every mode.
@@ -46,14 +46,21 @@ pub fn any_facts() -> Facts
 
 /// That kind alone.
 #[tactic(auto, using(crate::proofs::KindSets::only_from))]
-fn only(kind: Kind) -> Kinds
+pub fn only(kind: Kind) -> Kinds
     ensures { result ≡ facts.only kind }
 {
     Kinds::one(kind)
 }
 
+/// One kind and another.
+pub fn either(first: Kind, second: Kind) -> Kinds
+    ensures { result ≡ facts.either first second }
+{
+    with(only(first), second)
+}
+
 /// Those kinds, and that one.
-fn with(kinds: Kinds, kind: Kind) -> Kinds
+pub fn with(kinds: Kinds, kind: Kind) -> Kinds
     ensures { result ≡ facts.with_kind kinds kind }
 {
     kinds.with(kind)
@@ -63,14 +70,14 @@ fn all_but_bytes() -> Kinds
     ensures { result ≡ facts.all_but_bytes }
 {
     let leaves = with(
-        with(with(only(Kind::Null), Kind::Bool), Kind::Int),
+        with(either(Kind::Null, Kind::Bool), Kind::Int),
         Kind::Text,
     );
     with(with(leaves, Kind::List), Kind::Map)
 }
 
 /// As values and on the compact wire; as keys of JSON, and as buffered keys, where it is said.
-fn stands(key: bool, buffered_key: bool) -> Claims
+pub fn stands(key: bool, buffered_key: bool) -> Claims
     ensures { result ≡ facts.stands key buffered_key }
 {
     Claims {
@@ -82,31 +89,38 @@ fn stands(key: bool, buffered_key: bool) -> Claims
     }
 }
 
-/// Those kinds, written and read in every mode.
-fn everywhere(kinds: Kinds, claims: Claims) -> Facts
-    ensures { result ≡ facts.everywhere kinds claims }
+/// Those kinds written, and those read, in every mode.
+pub fn told(written: Kinds, read: Kinds, claims: Claims, grade: Grade) -> Facts
+    ensures { result ≡ facts.told written read claims grade }
 {
     Facts {
         claims,
-        written: kinds,
-        read_value: kinds,
-        read_key: kinds,
-        read_buffered_key: kinds,
-        grade: Grade::Exact,
+        written,
+        read_value: read,
+        read_key: read,
+        read_buffered_key: read,
+        grade,
     }
 }
 
-/// That kind, for which a text may stand as a key of JSON that isn't buffered.
-fn keyed(kind: Kind) -> Facts
-    ensures { result ≡ facts.keyed kind }
+/// Those kinds, written and read in every mode.
+pub fn everywhere(kinds: Kinds, claims: Claims) -> Facts
+    ensures { result ≡ facts.everywhere kinds claims }
+{
+    told(kinds, kinds, claims, Grade::Exact)
+}
+
+/// That kind, for which a text may stand as a key of JSON that isn't buffered; as a buffered key it doesn't stand.
+pub fn keyed(kind: Kind, grade: Grade) -> Facts
+    ensures { result ≡ facts.keyed kind grade }
 {
     let kinds = only(kind);
     Facts {
         claims: stands(true, false),
         written: kinds,
         read_value: kinds,
-        read_key: with(kinds, Kind::Text),
+        read_key: either(kind, Kind::Text),
         read_buffered_key: kinds,
-        grade: Grade::Exact,
+        grade,
     }
 }

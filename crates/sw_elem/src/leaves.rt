@@ -29,7 +29,7 @@ impl Serialize for bool {
 /// that is no truth value.
 impl Deserialize for bool {
     ghost use Rattle.std.specs.Prelude.{true};
-    ghost use Rattle.sw_elem.specs.Equations.{own_spot};
+    ghost use Rattle.sw_elem.specs.Equations.{own_spot, no_skips};
     ghost use Rattle.sw_elem.specs.Truths.{truth_reads};
     ghost use Rattle.sw_elem.specs.TextLaws.{truth_reading_lawful};
 
@@ -40,6 +40,8 @@ impl Deserialize for bool {
     ghost reads = { truth_reads };
 
     ghost spot = { own_spot };
+
+    ghost skips = { no_skips };
 
     fn deserialize(
         _alloc: Global,
@@ -57,6 +59,7 @@ impl Deserialize for bool {
 }
 
 impl Element for bool {
+    ghost use Rattle.std.specs.Prelude.{refl};
     ghost use Rattle.sw_elem.specs.Facts.{truth_facts};
     ghost use Rattle.sw_elem.specs.KeyedLeaf.{truth_keeps};
 
@@ -67,6 +70,8 @@ impl Element for bool {
     }
 
     ghost keeps = { truth_keeps };
+
+    ghost passes_nothing = { λ _ _. refl };
 }
 
 impl Serialize for char {
@@ -86,7 +91,7 @@ impl Serialize for char {
 /// as `InvalidType` of that kind.
 impl Deserialize for char {
     ghost use Rattle.std.specs.Prelude.{true};
-    ghost use Rattle.sw_elem.specs.Equations.{own_spot};
+    ghost use Rattle.sw_elem.specs.Equations.{own_spot, no_skips};
     ghost use Rattle.sw_elem.specs.Texts.{character_reads};
     ghost use Rattle.sw_elem.specs.TextLaws.{character_reading_lawful};
 
@@ -97,6 +102,8 @@ impl Deserialize for char {
     ghost reads = { character_reads };
 
     ghost spot = { own_spot };
+
+    ghost skips = { no_skips };
 
     fn deserialize(
         _alloc: Global,
@@ -117,6 +124,7 @@ impl Deserialize for char {
 }
 
 impl Element for char {
+    ghost use Rattle.std.specs.Prelude.{refl};
     ghost use Rattle.sw_elem.specs.Facts.{text_facts};
     ghost use Rattle.sw_elem.specs.TextLeaf.{character_keeps};
 
@@ -127,6 +135,8 @@ impl Element for char {
     }
 
     ghost keeps = { character_keeps };
+
+    ghost passes_nothing = { λ _ _. refl };
 }
 
 impl Serialize for String {
@@ -145,7 +155,7 @@ impl Serialize for String {
 /// A text. A node of another kind is refused as `InvalidType` of that kind.
 impl Deserialize for String {
     ghost use Rattle.std.specs.Prelude.{false};
-    ghost use Rattle.sw_elem.specs.Equations.{own_spot};
+    ghost use Rattle.sw_elem.specs.Equations.{own_spot, no_skips};
     ghost use Rattle.sw_elem.specs.Texts.{text_reads};
     ghost use Rattle.sw_elem.specs.TextLaws.{text_reading_lawful};
 
@@ -156,6 +166,8 @@ impl Deserialize for String {
     ghost reads = { text_reads };
 
     ghost spot = { own_spot };
+
+    ghost skips = { no_skips };
 
     fn deserialize(
         alloc: Global,
@@ -176,6 +188,7 @@ impl Deserialize for String {
 }
 
 impl Element for String {
+    ghost use Rattle.std.specs.Prelude.{refl};
     ghost use Rattle.sw_elem.specs.Facts.{text_facts};
     ghost use Rattle.sw_elem.specs.TextLeaf.{text_keeps};
 
@@ -186,6 +199,8 @@ impl Element for String {
     }
 
     ghost keeps = { text_keeps };
+
+    ghost passes_nothing = { λ _ _. refl };
 }
 
 impl Serialize for () {
@@ -201,7 +216,7 @@ impl Serialize for () {
 /// The null. A node of another kind is refused as `InvalidType` of that kind.
 impl Deserialize for () {
     ghost use Rattle.std.specs.Prelude.{true};
-    ghost use Rattle.sw_elem.specs.Equations.{own_spot};
+    ghost use Rattle.sw_elem.specs.Equations.{own_spot, no_skips};
     ghost use Rattle.sw_elem.specs.Texts.{nothing_reads};
     ghost use Rattle.sw_elem.specs.TextLaws.{nothing_lawful};
 
@@ -212,6 +227,8 @@ impl Deserialize for () {
     ghost reads = { nothing_reads };
 
     ghost spot = { own_spot };
+
+    ghost skips = { no_skips };
 
     fn deserialize(
         _alloc: Global,
@@ -229,6 +246,7 @@ impl Deserialize for () {
 }
 
 impl Element for () {
+    ghost use Rattle.std.specs.Prelude.{refl};
     ghost use Rattle.sw_elem.specs.Facts.{nothing_facts};
     ghost use Rattle.sw_elem.specs.TextLeaf.{nothing_keeps};
 
@@ -239,4 +257,6 @@ impl Element for () {
     }
 
     ghost keeps = { nothing_keeps };
+
+    ghost passes_nothing = { λ _ _. refl };
 }

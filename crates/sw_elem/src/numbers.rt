@@ -35,8 +35,10 @@ fn spelled(view: View<'_>, mode: Mode) -> Option<Whole>
 }
 
 /// The number that the node is, or that its text spells where a text may stand for a number.
+///
+/// `InvalidType` of the node's kind exactly where there is none.
 #[tactic(auto, using(crate::proofs::KeyTexts::keyed))]
-fn whole_at(view: View<'_>, mode: Mode) -> Result<Whole, Refusal>
+pub fn whole_at(view: View<'_>, mode: Mode) -> Result<Whole, Refusal>
     ensures { result ≡ placed (keyed_reads int_at key_number mode) (own_spot mode) (seen view.entry) }
 {
     if let Some(number) = view.as_int() {

@@ -23,13 +23,13 @@ pub trait Serialize: Meant {
 /// A type that reads itself, in place of serde's `Deserialize`.
 ///
 /// It names, in each mode, the meaning of each tree or why it is refused, and the number of the
-/// refused node, from 0 in preorder, a key before its value.
+/// refused node, from 0 in preorder, a key before its value; and the refusals that are passed over.
 pub trait Deserialize: Meant + Sized {
     ghost use Rattle.std.specs.Prelude.{◌≡◌, Bool, true};
-    ghost use Rattle.sw_tree.specs.Placed.{placed};
-    ghost use Rattle.sw_tree.specs.View.{seen};
-    ghost use Rattle.sw_elem.specs.Equations.{Reads, Spots, LawfulReading};
-    ghost use Rattle.sw_elem.specs.Answers.{IsRead, ReadsFreely};
+    ghost use Rattle.sw_tree.specs.Placed.{placed, placed_notes};
+    ghost use Rattle.sw_tree.specs.View.{seen, tree_of};
+    ghost use Rattle.sw_elem.specs.Equations.{Reads, Spots, Skips, LawfulReading};
+    ghost use Rattle.sw_elem.specs.Answers.{IsRead, IsLogged, ReadsFreely};
 
     /// Whether reading takes no memory.
     const FREE: bool;
@@ -40,10 +40,13 @@ pub trait Deserialize: Meant + Sized {
 
     ghost spot: { Spots };
 
+    ghost skips: { Skips };
+
     /// The value of the view's tree in that mode. `Refused` exactly where the tree has none, with its
     /// reason and the place of the refused node; `Memory` only where `FREE` is false.
     ///
-    /// It passes nothing over, so the log stays as it was.
+    /// The log gains the refusals that were passed over, in reading order, each at its place. After
+    /// `Memory` it has gained the first of them alone, or all.
     fn deserialize(
         alloc: Global,
         view: View<'_>,
@@ -51,7 +54,7 @@ pub trait Deserialize: Meant + Sized {
         log: &mut Skipped,
     ) -> Result<Self, DeFail>
         ensures answer { IsRead Self.meaning result (placed (reads mode) (spot mode) (seen view.entry)) }
-        ensures logs { log.new ≡ log.old }
+        ensures logs { IsLogged result log.old (placed_notes (seen view.entry) (skips mode (tree_of view.entry))) log.new }
         ensures free { FREE ≡ true → ReadsFreely result };
 
     ghost lawful: { LawfulReading Self.is_meaning reads spot };

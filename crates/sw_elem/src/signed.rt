@@ -25,7 +25,7 @@ impl Serialize for i8 {
 impl Deserialize for i8 {
     ghost use Rattle.std.specs.Prelude.{◌^◌, true};
     ghost use Rattle.std.specs.Int.{w8};
-    ghost use Rattle.sw_elem.specs.Equations.{own_spot};
+    ghost use Rattle.sw_elem.specs.Equations.{own_spot, no_skips};
     ghost use Rattle.sw_elem.specs.Numbers.{is_within, number_reads};
     ghost use Rattle.sw_elem.specs.NumberLaws.{signed_number_lawful};
 
@@ -36,6 +36,8 @@ impl Deserialize for i8 {
     ghost reads = { number_reads (is_within (2 ^ 7)) };
 
     ghost spot = { own_spot };
+
+    ghost skips = { no_skips };
 
     fn deserialize(
         _alloc: Global,
@@ -53,6 +55,7 @@ impl Deserialize for i8 {
 }
 
 impl Element for i8 {
+    ghost use Rattle.std.specs.Prelude.{refl};
     ghost use Rattle.std.specs.Int.{w8};
     ghost use Rattle.sw_elem.specs.Facts.{number_facts};
     ghost use Rattle.sw_elem.specs.KeyedLeaf.{signed_keeps};
@@ -64,6 +67,8 @@ impl Element for i8 {
     }
 
     ghost keeps = { signed_keeps w8 };
+
+    ghost passes_nothing = { λ _ _. refl };
 }
 
 impl Serialize for i16 {
@@ -79,7 +84,7 @@ impl Serialize for i16 {
 impl Deserialize for i16 {
     ghost use Rattle.std.specs.Prelude.{◌^◌, true};
     ghost use Rattle.std.specs.Int.{w16};
-    ghost use Rattle.sw_elem.specs.Equations.{own_spot};
+    ghost use Rattle.sw_elem.specs.Equations.{own_spot, no_skips};
     ghost use Rattle.sw_elem.specs.Numbers.{is_within, number_reads};
     ghost use Rattle.sw_elem.specs.NumberLaws.{signed_number_lawful};
 
@@ -90,6 +95,8 @@ impl Deserialize for i16 {
     ghost reads = { number_reads (is_within (2 ^ 15)) };
 
     ghost spot = { own_spot };
+
+    ghost skips = { no_skips };
 
     fn deserialize(
         _alloc: Global,
@@ -107,6 +114,7 @@ impl Deserialize for i16 {
 }
 
 impl Element for i16 {
+    ghost use Rattle.std.specs.Prelude.{refl};
     ghost use Rattle.std.specs.Int.{w16};
     ghost use Rattle.sw_elem.specs.Facts.{number_facts};
     ghost use Rattle.sw_elem.specs.KeyedLeaf.{signed_keeps};
@@ -118,6 +126,8 @@ impl Element for i16 {
     }
 
     ghost keeps = { signed_keeps w16 };
+
+    ghost passes_nothing = { λ _ _. refl };
 }
 
 impl Serialize for i32 {
@@ -133,7 +143,7 @@ impl Serialize for i32 {
 impl Deserialize for i32 {
     ghost use Rattle.std.specs.Prelude.{◌^◌, true};
     ghost use Rattle.std.specs.Int.{w32};
-    ghost use Rattle.sw_elem.specs.Equations.{own_spot};
+    ghost use Rattle.sw_elem.specs.Equations.{own_spot, no_skips};
     ghost use Rattle.sw_elem.specs.Numbers.{is_within, number_reads};
     ghost use Rattle.sw_elem.specs.NumberLaws.{signed_number_lawful};
 
@@ -144,6 +154,8 @@ impl Deserialize for i32 {
     ghost reads = { number_reads (is_within (2 ^ 31)) };
 
     ghost spot = { own_spot };
+
+    ghost skips = { no_skips };
 
     fn deserialize(
         _alloc: Global,
@@ -161,6 +173,7 @@ impl Deserialize for i32 {
 }
 
 impl Element for i32 {
+    ghost use Rattle.std.specs.Prelude.{refl};
     ghost use Rattle.std.specs.Int.{w32};
     ghost use Rattle.sw_elem.specs.Facts.{number_facts};
     ghost use Rattle.sw_elem.specs.KeyedLeaf.{signed_keeps};
@@ -172,6 +185,8 @@ impl Element for i32 {
     }
 
     ghost keeps = { signed_keeps w32 };
+
+    ghost passes_nothing = { λ _ _. refl };
 }
 
 impl Serialize for i64 {
@@ -187,7 +202,7 @@ impl Serialize for i64 {
 impl Deserialize for i64 {
     ghost use Rattle.std.specs.Prelude.{◌^◌, true};
     ghost use Rattle.std.specs.Int.{w64};
-    ghost use Rattle.sw_elem.specs.Equations.{own_spot};
+    ghost use Rattle.sw_elem.specs.Equations.{own_spot, no_skips};
     ghost use Rattle.sw_elem.specs.Numbers.{is_within, number_reads};
     ghost use Rattle.sw_elem.specs.NumberLaws.{signed_number_lawful};
 
@@ -198,6 +213,8 @@ impl Deserialize for i64 {
     ghost reads = { number_reads (is_within (2 ^ 63)) };
 
     ghost spot = { own_spot };
+
+    ghost skips = { no_skips };
 
     fn deserialize(
         _alloc: Global,
@@ -215,6 +232,7 @@ impl Deserialize for i64 {
 }
 
 impl Element for i64 {
+    ghost use Rattle.std.specs.Prelude.{refl};
     ghost use Rattle.std.specs.Int.{w64};
     ghost use Rattle.sw_elem.specs.Facts.{number_facts};
     ghost use Rattle.sw_elem.specs.KeyedLeaf.{signed_keeps};
@@ -226,6 +244,8 @@ impl Element for i64 {
     }
 
     ghost keeps = { signed_keeps w64 };
+
+    ghost passes_nothing = { λ _ _. refl };
 }
 
 impl Serialize for i128 {
@@ -241,7 +261,7 @@ impl Serialize for i128 {
 impl Deserialize for i128 {
     ghost use Rattle.std.specs.Prelude.{◌^◌, true};
     ghost use Rattle.std.specs.Int.{w128};
-    ghost use Rattle.sw_elem.specs.Equations.{own_spot};
+    ghost use Rattle.sw_elem.specs.Equations.{own_spot, no_skips};
     ghost use Rattle.sw_elem.specs.Numbers.{is_within, number_reads};
     ghost use Rattle.sw_elem.specs.NumberLaws.{signed_number_lawful};
 
@@ -252,6 +272,8 @@ impl Deserialize for i128 {
     ghost reads = { number_reads (is_within (2 ^ 127)) };
 
     ghost spot = { own_spot };
+
+    ghost skips = { no_skips };
 
     fn deserialize(
         _alloc: Global,
@@ -269,6 +291,7 @@ impl Deserialize for i128 {
 }
 
 impl Element for i128 {
+    ghost use Rattle.std.specs.Prelude.{refl};
     ghost use Rattle.std.specs.Int.{w128};
     ghost use Rattle.sw_elem.specs.Facts.{number_facts};
     ghost use Rattle.sw_elem.specs.KeyedLeaf.{signed_keeps};
@@ -280,6 +303,8 @@ impl Element for i128 {
     }
 
     ghost keeps = { signed_keeps w128 };
+
+    ghost passes_nothing = { λ _ _. refl };
 }
 
 impl Serialize for isize {
@@ -295,7 +320,7 @@ impl Serialize for isize {
 impl Deserialize for isize {
     ghost use Rattle.std.specs.Prelude.{◌^◌, true};
     ghost use Rattle.std.specs.Int.{w64};
-    ghost use Rattle.sw_elem.specs.Equations.{own_spot};
+    ghost use Rattle.sw_elem.specs.Equations.{own_spot, no_skips};
     ghost use Rattle.sw_elem.specs.Numbers.{is_within, number_reads};
     ghost use Rattle.sw_elem.specs.NumberLaws.{signed_number_lawful};
 
@@ -306,6 +331,8 @@ impl Deserialize for isize {
     ghost reads = { number_reads (is_within (2 ^ 63)) };
 
     ghost spot = { own_spot };
+
+    ghost skips = { no_skips };
 
     fn deserialize(
         _alloc: Global,
@@ -323,6 +350,7 @@ impl Deserialize for isize {
 }
 
 impl Element for isize {
+    ghost use Rattle.std.specs.Prelude.{refl};
     ghost use Rattle.std.specs.Int.{w64};
     ghost use Rattle.sw_elem.specs.Facts.{number_facts};
     ghost use Rattle.sw_elem.specs.KeyedLeaf.{signed_keeps};
@@ -334,4 +362,6 @@ impl Element for isize {
     }
 
     ghost keeps = { signed_keeps w64 };
+
+    ghost passes_nothing = { λ _ _. refl };
 }

@@ -1,5 +1,8 @@
 use crate::any::Any;
 use crate::element::Element;
+use crate::facts::{either, everywhere, keyed, only, stands, told, with};
+use crate::laws::{are_copies_free, are_leaves_free, are_parsed_free, is_parsed_text_free};
+use crate::numbers::whole_at;
 use crate::serialize::{Deserialize, Serialize};
 use crate::text::{ParseFail, TextForm};
 use std::alloc::{AllocError, Global};
@@ -430,4 +433,42 @@ fn each_text_form_names_its_class(rt: HostRuntime) {
         };
         assert!(rt; found == want);
     }
+}
+
+#[test]
+fn what_is_copied_takes_memory(rt: HostRuntime) {
+    assert!(rt; are_leaves_free());
+    assert!(rt; !are_copies_free());
+    assert!(rt; are_parsed_free());
+    assert!(rt; !is_parsed_text_free());
+}
+
+/// The document of that number alone.
+fn number_alone(alloc: Global, number: Whole) -> Result<Doc<'static>, AllocError> {
+    let mut builder = DocBuilder::new(alloc, b"".as_slice());
+    builder.int(number)?;
+    Ok(builder.finish())
+}
+
+#[test]
+fn every_whole_number_is_read(rt: HostRuntime) -> Result<(), AllocError> {
+    let most = Whole::from_u128(u128::MAX);
+    let doc = number_alone(rt.alloc(), most)?;
+    assert!(rt; matches!(whole_at(doc.view(), Mode::plain(WireKind::Json)), Ok(number) if number == most));
+    Ok(())
+}
+
+#[test]
+fn facts_are_made_of_kinds(rt: HostRuntime) {
+    let number_or_text = Kinds::one(Kind::Int).with(Kind::Text);
+    assert!(rt; only(Kind::Text) == Kinds::one(Kind::Text));
+    assert!(rt; either(Kind::Int, Kind::Text) == number_or_text);
+    assert!(rt; with(only(Kind::Int), Kind::Text) == number_or_text);
+    assert!(rt; keyed(Kind::Int, Grade::Exact) == known_by_keys(Kind::Int));
+    let text = known_by_kinds(Kinds::one(Kind::Text), true);
+    assert!(rt; everywhere(only(Kind::Text), stands(true, true)) == text);
+    let told_apart = told(only(Kind::Int), number_or_text, stands(true, true), Grade::Rounded);
+    assert!(rt; told_apart.written == Kinds::one(Kind::Int));
+    assert!(rt; told_apart.read_key == number_or_text);
+    assert!(rt; told_apart.grade == Grade::Rounded);
 }

@@ -28,7 +28,7 @@ impl Serialize for u8 {
 
 impl Deserialize for u8 {
     ghost use Rattle.std.specs.Prelude.{◌^◌, true};
-    ghost use Rattle.sw_elem.specs.Equations.{own_spot};
+    ghost use Rattle.sw_elem.specs.Equations.{own_spot, no_skips};
     ghost use Rattle.sw_elem.specs.Numbers.{is_below, number_reads};
     ghost use Rattle.sw_elem.specs.NumberLaws.{unsigned_number_lawful};
 
@@ -39,6 +39,8 @@ impl Deserialize for u8 {
     ghost reads = { number_reads (is_below (2 ^ 8)) };
 
     ghost spot = { own_spot };
+
+    ghost skips = { no_skips };
 
     fn deserialize(
         _alloc: Global,
@@ -56,7 +58,7 @@ impl Deserialize for u8 {
 }
 
 impl Element for u8 {
-    ghost use Rattle.std.specs.Prelude.{◌^◌};
+    ghost use Rattle.std.specs.Prelude.{refl, ◌^◌};
     ghost use Rattle.std.proofs.Common.{lit≤};
     ghost use Rattle.sw_elem.specs.Facts.{number_facts};
     ghost use Rattle.sw_elem.specs.KeyedLeaf.{unsigned_keeps};
@@ -68,6 +70,8 @@ impl Element for u8 {
     }
 
     ghost keeps = { unsigned_keeps (2 ^ 8) (lit≤ tt) };
+
+    ghost passes_nothing = { λ _ _. refl };
 }
 
 impl Serialize for u16 {
@@ -82,7 +86,7 @@ impl Serialize for u16 {
 
 impl Deserialize for u16 {
     ghost use Rattle.std.specs.Prelude.{◌^◌, true};
-    ghost use Rattle.sw_elem.specs.Equations.{own_spot};
+    ghost use Rattle.sw_elem.specs.Equations.{own_spot, no_skips};
     ghost use Rattle.sw_elem.specs.Numbers.{is_below, number_reads};
     ghost use Rattle.sw_elem.specs.NumberLaws.{unsigned_number_lawful};
 
@@ -93,6 +97,8 @@ impl Deserialize for u16 {
     ghost reads = { number_reads (is_below (2 ^ 16)) };
 
     ghost spot = { own_spot };
+
+    ghost skips = { no_skips };
 
     fn deserialize(
         _alloc: Global,
@@ -110,7 +116,7 @@ impl Deserialize for u16 {
 }
 
 impl Element for u16 {
-    ghost use Rattle.std.specs.Prelude.{◌^◌};
+    ghost use Rattle.std.specs.Prelude.{refl, ◌^◌};
     ghost use Rattle.std.proofs.Common.{lit≤};
     ghost use Rattle.sw_elem.specs.Facts.{number_facts};
     ghost use Rattle.sw_elem.specs.KeyedLeaf.{unsigned_keeps};
@@ -122,6 +128,8 @@ impl Element for u16 {
     }
 
     ghost keeps = { unsigned_keeps (2 ^ 16) (lit≤ tt) };
+
+    ghost passes_nothing = { λ _ _. refl };
 }
 
 impl Serialize for u32 {
@@ -136,7 +144,7 @@ impl Serialize for u32 {
 
 impl Deserialize for u32 {
     ghost use Rattle.std.specs.Prelude.{◌^◌, true};
-    ghost use Rattle.sw_elem.specs.Equations.{own_spot};
+    ghost use Rattle.sw_elem.specs.Equations.{own_spot, no_skips};
     ghost use Rattle.sw_elem.specs.Numbers.{is_below, number_reads};
     ghost use Rattle.sw_elem.specs.NumberLaws.{unsigned_number_lawful};
 
@@ -147,6 +155,8 @@ impl Deserialize for u32 {
     ghost reads = { number_reads (is_below (2 ^ 32)) };
 
     ghost spot = { own_spot };
+
+    ghost skips = { no_skips };
 
     fn deserialize(
         _alloc: Global,
@@ -164,7 +174,7 @@ impl Deserialize for u32 {
 }
 
 impl Element for u32 {
-    ghost use Rattle.std.specs.Prelude.{◌^◌};
+    ghost use Rattle.std.specs.Prelude.{refl, ◌^◌};
     ghost use Rattle.std.proofs.Common.{lit≤};
     ghost use Rattle.sw_elem.specs.Facts.{number_facts};
     ghost use Rattle.sw_elem.specs.KeyedLeaf.{unsigned_keeps};
@@ -176,6 +186,8 @@ impl Element for u32 {
     }
 
     ghost keeps = { unsigned_keeps (2 ^ 32) (lit≤ tt) };
+
+    ghost passes_nothing = { λ _ _. refl };
 }
 
 impl Serialize for u64 {
@@ -190,7 +202,7 @@ impl Serialize for u64 {
 
 impl Deserialize for u64 {
     ghost use Rattle.std.specs.Prelude.{◌^◌, true};
-    ghost use Rattle.sw_elem.specs.Equations.{own_spot};
+    ghost use Rattle.sw_elem.specs.Equations.{own_spot, no_skips};
     ghost use Rattle.sw_elem.specs.Numbers.{is_below, number_reads};
     ghost use Rattle.sw_elem.specs.NumberLaws.{unsigned_number_lawful};
 
@@ -201,6 +213,8 @@ impl Deserialize for u64 {
     ghost reads = { number_reads (is_below (2 ^ 64)) };
 
     ghost spot = { own_spot };
+
+    ghost skips = { no_skips };
 
     fn deserialize(
         _alloc: Global,
@@ -218,7 +232,7 @@ impl Deserialize for u64 {
 }
 
 impl Element for u64 {
-    ghost use Rattle.std.specs.Prelude.{◌^◌};
+    ghost use Rattle.std.specs.Prelude.{refl, ◌^◌};
     ghost use Rattle.std.proofs.Common.{lit≤};
     ghost use Rattle.sw_elem.specs.Facts.{number_facts};
     ghost use Rattle.sw_elem.specs.KeyedLeaf.{unsigned_keeps};
@@ -230,6 +244,8 @@ impl Element for u64 {
     }
 
     ghost keeps = { unsigned_keeps (2 ^ 64) (lit≤ tt) };
+
+    ghost passes_nothing = { λ _ _. refl };
 }
 
 impl Serialize for u128 {
@@ -244,7 +260,7 @@ impl Serialize for u128 {
 
 impl Deserialize for u128 {
     ghost use Rattle.std.specs.Prelude.{◌^◌, true};
-    ghost use Rattle.sw_elem.specs.Equations.{own_spot};
+    ghost use Rattle.sw_elem.specs.Equations.{own_spot, no_skips};
     ghost use Rattle.sw_elem.specs.Numbers.{is_below, number_reads};
     ghost use Rattle.sw_elem.specs.NumberLaws.{unsigned_number_lawful};
 
@@ -255,6 +271,8 @@ impl Deserialize for u128 {
     ghost reads = { number_reads (is_below (2 ^ 128)) };
 
     ghost spot = { own_spot };
+
+    ghost skips = { no_skips };
 
     fn deserialize(
         _alloc: Global,
@@ -272,7 +290,7 @@ impl Deserialize for u128 {
 }
 
 impl Element for u128 {
-    ghost use Rattle.std.specs.Prelude.{◌^◌};
+    ghost use Rattle.std.specs.Prelude.{refl, ◌^◌};
     ghost use Rattle.std.proofs.Common.{lit≤};
     ghost use Rattle.sw_elem.specs.Facts.{number_facts};
     ghost use Rattle.sw_elem.specs.KeyedLeaf.{unsigned_keeps};
@@ -284,6 +302,8 @@ impl Element for u128 {
     }
 
     ghost keeps = { unsigned_keeps (2 ^ 128) (lit≤ tt) };
+
+    ghost passes_nothing = { λ _ _. refl };
 }
 
 impl Serialize for usize {
@@ -298,7 +318,7 @@ impl Serialize for usize {
 
 impl Deserialize for usize {
     ghost use Rattle.std.specs.Prelude.{◌^◌, true};
-    ghost use Rattle.sw_elem.specs.Equations.{own_spot};
+    ghost use Rattle.sw_elem.specs.Equations.{own_spot, no_skips};
     ghost use Rattle.sw_elem.specs.Numbers.{is_below, number_reads};
     ghost use Rattle.sw_elem.specs.NumberLaws.{unsigned_number_lawful};
 
@@ -309,6 +329,8 @@ impl Deserialize for usize {
     ghost reads = { number_reads (is_below (2 ^ 64)) };
 
     ghost spot = { own_spot };
+
+    ghost skips = { no_skips };
 
     fn deserialize(
         _alloc: Global,
@@ -326,7 +348,7 @@ impl Deserialize for usize {
 }
 
 impl Element for usize {
-    ghost use Rattle.std.specs.Prelude.{◌^◌};
+    ghost use Rattle.std.specs.Prelude.{refl, ◌^◌};
     ghost use Rattle.std.proofs.Common.{lit≤};
     ghost use Rattle.sw_elem.specs.Facts.{number_facts};
     ghost use Rattle.sw_elem.specs.KeyedLeaf.{unsigned_keeps};
@@ -338,4 +360,6 @@ impl Element for usize {
     }
 
     ghost keeps = { unsigned_keeps (2 ^ 64) (lit≤ tt) };
+
+    ghost passes_nothing = { λ _ _. refl };
 }
