@@ -1,12 +1,13 @@
 -- What a sound nest writes is printed, and what is printed is read again.
-use Rattle.std.proofs.Common.{◌≡◌, ◌≤◌, ℕ, List, Option, Some, None, Result, Ok, Err, ap, ◌∙◌, sym}
+use Rattle.std.proofs.Common.{◌≡◌, ◌≤◌, ℕ, List, Option, Some, None, Result, Ok, Err, option_map, refl, ap, ◌∙◌, sym}
 use Rattle.sw_tree.specs.Meaning.{Meaning}
 use Rattle.sw_tree.specs.Mode.{plain}
 use Rattle.sw_tree.specs.Placed.{placed, placed_at}
 use Rattle.sw_tree.specs.Proper.{IsProper}
 use Rattle.sw_tree.specs.Seen.{Seen}
 use Rattle.sw_tree.specs.Tree.{Tree, depth}
-use Rattle.sw_tree.specs.Wires.{Spelled, Printed, PrintsImages}
+use Rattle.sw_tree.specs.Short.{IsShort}
+use Rattle.sw_tree.specs.Wires.{Spelled, Texts, printed, PrintsImages}
 use Rattle.sw_tree.specs.declared.mode.Mode.{Mode}
 use Rattle.sw_tree.specs.declared.mode.WireKind.{WireKind}
 use Rattle.sw_tree.specs.declared.fail.SerError.TheVariants.{Key}
@@ -18,12 +19,18 @@ use Rattle.sw_check.specs.declared.grade.Grade.TheVariants.{Exact}
 use Rattle.sw_elem.specs.Equations.{Writes, Reads, Spots, Skips, LawfulReading}
 use Rattle.sw_elem.specs.Laws.{Norm}
 use Rattle.sw_elem.specs.Lawful.{Lawful}
-use Rattle.std.specs.Result.{IsErrAnd}
+use Rattle.std.specs.Result.{IfOk, IsErrAnd}
+use Rattle.sw_elem.specs.Answers.{IsRead, IsWritten}
+use Rattle.sw_tree.specs.declared.fail.DeFail.{DeFail}
+use Rattle.sw_tree.specs.declared.fail.SerError.{SerError}
+use Rattle.sw_tree.specs.declared.fail.SerFail.{SerFail}
+use Rattle.sw_tree.specs.declared.fail.SerFail.TheVariants as ser
 use Rattle.sw_tree.specs.Wires.{IsPrinted}
 use Rattle.sw_tree.specs.declared.fail.PrintError.{PrintError}
 use Rattle.sw_tree.specs.declared.fail.PrintError.TheVariants as print
-use Rattle.sw_core.specs.Again.{ReadsAgain}
-use Rattle.sw_core.specs.Recoding.{print_error}
+use Rattle.sw_core.specs.Again.{SpellsImage, ReadsAgain, IsKept}
+use Rattle.sw_core.specs.AgainLaws.{kept_spells, kept_again}
+use Rattle.sw_core.specs.Recoding.{answer, write_error, print_error}
 use Rattle.sw_core.specs.declared.recode.RecodeError.{RecodeError}
 use Rattle.sw_core.specs.declared.recode.RecodeError.TheVariants as fail
 use Rattle.sw_core.proofs.Recoding.{err_is}
@@ -32,42 +39,56 @@ read_ok : (s : Seen) (k : ℕ) (r : Result Meaning DeError) (v : Meaning) → pl
 read_ok s k (Ok w) v p = let e : w ≡ v = cc in ap Ok e
 read_ok s k (Err e) v p = absurd (cc)
 
-one_text : (o : Option (List ℕ)) (b c : List ℕ) → o ≡ Some b → o ≡ Some c → b ≡ c
-one_text o b c p q = cc
-
 no_text : (o : Option (List ℕ)) (b : List ℕ) → o ≡ Some b → o ≡ None → ⊥
 no_text o b p q = cc
 
--- what is read is a meaning of the type
-pub is_meant : (P : Meaning → Type 0) (r : Reads) (k : Spots) → LawfulReading P r k → (m : Mode) (s : Seen) (v : Meaning) → placed (r m) (k m) s ≡ Ok v → P v
-is_meant P r k law m s v p = law.meanings m s.tree v (read_ok s (k m s.tree) (r m s.tree) v p)
+-- what is read of a tree that a view can show is a meaning of the type
+pub is_meant : (P : Meaning → Type 0) (r : Reads) (k : Spots) → LawfulReading P r k → (m : Mode) (s : Seen) (v : Meaning) → IsProper s.tree → depth s.tree ≤ 128 → placed (r m) (k m) s ≡ Ok v → P v
+is_meant P r k law m s v proper shallow p = law.meanings m s.tree v (record { proper = proper; shallow = shallow }) (read_ok s (k m s.tree) (r m s.tree) v p)
 
-module _ (P : Meaning → Type 0) (w : Writes) (r : Reads) (s : Spots) (k : Skips) (e : Form) (n : Norm) (a : Type 0) (laws : Lawful P w r s k e n a) (reading : LawfulReading P r s)
-    (id : WireKind) (spelled : Spelled) (printed : Printed) (prints : PrintsImages id spelled printed) (sound : IsSound e (plain id)) where
-  module _ (m : Mode) (here : m ≡ plain id) (x : Seen) (v : Meaning) (read : placed (r m) (s m) x ≡ Ok v) (u : Tree) (written : w m v ≡ Ok u) (proper : IsProper u) (shallow : depth u ≤ 128) where
-    meant : P v
-    meant = is_meant P r s reading m x v read
+-- so is the value that a call answers
+pub read_meant : {T : Type 0} (f : T → Meaning) (P : Meaning → Type 0) (r : Reads) (k : Spots) → LawfulReading P r k → (m : Mode) (s : Seen) → IsProper s.tree → depth s.tree ≤ 128 →
+    (x : Result T DeFail) → IsRead f x (placed (r m) (k m) s) → IfOk x (λ y. P (f y))
+read_meant f P r k law m s proper shallow (Ok y) h = is_meant P r k law m s (f y) proper shallow h
+read_meant f P r k law m s proper shallow (Err e) h = tt
 
-    written_plain : w (plain id) v ≡ Ok u
-    written_plain = ap (λ y. w y v) (sym here) ∙ written
+module _ (P : Meaning → Type 0) (w : Writes) (r : Reads) (s : Spots) (k : Skips) (e : Form) (n : Norm) (a : Type 0) (laws : Lawful P w r s k e n a) (id : WireKind) (spelled : Spelled) (text : Texts)
+    (prints : PrintsImages id spelled text) (sound : IsSound e (plain id)) where
+  -- what is kept of a value of the type
+  pub kept : (v : Meaning) → P v → IsKept w r id spelled text n a v
+  kept v h = record {
+    imaged = λ t p. laws.images (plain id) sound v t h p;
+    spells = λ t i p short q. prints t i (laws.nodes (plain id) v t h p) short q;
+    back = λ y t i p q. laws.back y (plain id) sound v t i h p q;
+    never_key = λ p. laws.never_key (plain id) sound v h p;
+  }
 
-    pub again : a → (b : List ℕ) → printed u ≡ Some b → ReadsAgain (r (plain id)) spelled b (n (plain id) v)
-    again y b p =
-        let i = laws.images (plain id) sound v u meant written_plain in
-        let t = prints u i.0 proper shallow i.1 in
-        let same = one_text (printed u) b t.0 p t.1 in
-        record { tree = i.0; spells = ap spelled same ∙ t.2; means = laws.back y (plain id) sound v u i.0 meant written_plain i.1 }
+  module _ (v : Meaning) (meant : P v) (u : Tree) (written : w (plain id) v ≡ Ok u) (short : IsShort u) where
+    pub spells_image : (b : List ℕ) → printed id text u ≡ Some b → SpellsImage w id spelled b v
+    spells_image b p = kept_spells w r id spelled text n a v (kept v meant) u written short b p
 
-    pub again_same : a → grade e (plain id) ≡ Exact → (b : List ℕ) → printed u ≡ Some b → ReadsAgain (r (plain id)) spelled b v
-    again_same y g b p = let h = again y b p in record { tree = h.tree; spells = h.spells; means = h.means ∙ ap Ok (laws.exact (plain id) g v meant) }
+    pub again : a → (b : List ℕ) → printed id text u ≡ Some b → ReadsAgain w r id spelled b v (n (plain id) v)
+    again y b p = kept_again w r id spelled text n a v (kept v meant) u written short b p y
 
-    pub never_unprinted : printed u ≡ None → ⊥
-    never_unprinted p =
-        let i = laws.images (plain id) sound v u meant written_plain in
-        let t = prints u i.0 proper shallow i.1 in
-        no_text (printed u) t.0 t.1 p
+    pub again_same : a → grade e (plain id) ≡ Exact → (b : List ℕ) → printed id text u ≡ Some b → ReadsAgain w r id spelled b v v
+    again_same y g b p = let h = again y b p in record { image_of = h.image_of; means = h.means ∙ ap Ok (laws.exact (plain id) g v meant) }
+
+    pub settled : a → grade e (plain id) ≡ Exact → (b : List ℕ) → printed id text u ≡ Some b → answer r s w id spelled text b ≡ Ok (v, b)
+    settled y g b p = let h = again_same y g b p in rw (h.image_of.spells, h.means, written, p) refl
+
+    pub never_unprinted : printed id text u ≡ None → ⊥
+    never_unprinted p = let i = (kept v meant).imaged u written in no_text (printed id text u) (text i.0) (ap (option_map text) i.1) p
+
+-- a value that was read, in the mode of the wire
+pub written_plain : (w : Writes) (id : WireKind) (m : Mode) → m ≡ plain id → (v : Meaning) (u : Tree) → w m v ≡ Ok u → w (plain id) v ≡ Ok u
+written_plain w id m here v u p = ap (λ y. w y v) (sym here) ∙ p
 
 -- what isn't printed is refused for want of memory alone
 pub print_never_key : {T : Type 0} (x : Result T RecodeError) (e : PrintError) (o : Option (List ℕ)) → IsErrAnd x (λ r. r ≡ print_error e) → IsPrinted (Err e) o → (o ≡ None → ⊥) → x ≡ Err (fail.Unwritable Key) → ⊥
 print_never_key x print.Key o k h never p = never h
 print_never_key x print.Memory o k h never p = let q = err_is x fail.Memory k in cc (p, q)
+
+-- what isn't written is refused for another reason, or for want of memory
+pub write_never_key : {T : Type 0} (x : Result T RecodeError) (e : SerFail) (q : Result Tree SerError) → IsErrAnd x (λ r. r ≡ write_error e) → IsWritten (Err e) q → (q ≡ Err Key → ⊥) → x ≡ Err (fail.Unwritable Key) → ⊥
+write_never_key x (ser.Unwritable r) q k h never p = let is = err_is x (fail.Unwritable r) k in let same : r ≡ Key = cc (is, p) in never (h ∙ ap (λ d. Err d) same)
+write_never_key x ser.Memory q k h never p = let is = err_is x fail.Memory k in cc (p, is)

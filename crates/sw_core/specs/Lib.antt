@@ -13,4 +13,5 @@ pub mod VecKeeps
 pub mod Faithful
 pub mod Recoding
 pub mod Again
+pub mod AgainLaws
 pub mod ByteWire

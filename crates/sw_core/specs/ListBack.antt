@@ -1,11 +1,14 @@
 -- What a list of values keeps, from what its parts keep: it has an image, which is read back; and it is a list.
-use Rattle.std.specs.Prelude.{◌≡◌, List, [], ◌∷◌, map as list_map, cond, nat_le, Bool, true, false, Option, Some, None, option_map, Result, Ok, Err}
-use Rattle.std.proofs.Common.{refl, ap, sym, ◌∙◌}
+use Rattle.std.specs.Prelude.{◌≡◌, List, [], ◌∷◌, map as list_map, cond, nat_le, Bool, true, false, ◌≤◌, Option, Some, None, option_map, Result, Ok, Err}
+use Rattle.std.proofs.Common.{refl, ap, sym, subst, ◌∙◌}
+use Rattle.std.proofs.lemmas.Bool.{leb-true}
 use Rattle.sw_tree.specs.Image.{image}
-use Rattle.sw_tree.specs.Meaning.{Meaning, list, meanings, parts, meanings-parts}
+use Rattle.sw_tree.specs.Meaning.{Meaning, list, meanings, parts, parts-meanings, meanings-parts}
 use Rattle.sw_tree.specs.Meant.{IsListOf}
 use Rattle.sw_tree.specs.Mode.{at_value, marked}
-use Rattle.sw_tree.specs.Steps.{bind, traverse, option_traverse}
+use Rattle.sw_tree.specs.NodeTrees.{list-is_node}
+use Rattle.sw_tree.specs.Proper.{IsNodeTree}
+use Rattle.sw_tree.specs.Steps.{bind, traverse, option_traverse, Each}
 use Rattle.sw_tree.specs.Tree.{Tree, trees, items, items-trees, depth, kind_of}
 use Rattle.sw_tree.specs.Tree as node
 use Rattle.sw_tree.specs.declared.mode.Kind.TheVariants as kind
@@ -17,8 +20,9 @@ use Rattle.sw_tree.specs.declared.fail.SerError.{SerError}
 use Rattle.sw_tree.specs.declared.fail.SerError.TheVariants as ser
 use Rattle.sw_check.specs.Rules.{is_json_key}
 use Rattle.sw_elem.specs.Equations.{Writes, Reads}
-use Rattle.sw_elem.specs.Laws.{Norm, HasImages, ReadsBack, NeverKey, WritesKind, ReadsKind, IsUnmarked, IsExact}
+use Rattle.sw_elem.specs.Laws.{Norm, HasImages, ReadsBack, NeverKey, WritesKind, ReadsKind, IsUnmarked, IsExact, WritesNodes, NormsWithin}
 use Rattle.sw_core.specs.Lists.{within, list_writes, list_reads}
+use Rattle.sw_core.specs.ListLaws.{traverse-each}
 use Rattle.sw_core.specs.EachBack.{each_imaged, each_back, each_never, each_kept, each_same}
 use Rattle.sw_core.specs.ListImages.{list_image, image-elsewhere}
 
@@ -33,6 +37,10 @@ chosen : (b : Bool) (x y : Tree) (e : SerError) → cond b (Ok x) (Err e) ≡ Ok
 chosen true x y e p = cc
 chosen false x y e p = absurd (cc)
 
+chosen_shallow : (x y : Tree) (b : Bool) → nat_le (depth x) 128 ≡ b → cond b (Ok x) (Err ser.TooDeep) ≡ Ok y → depth y ≤ 128
+chosen_shallow x y true h p = let e : x ≡ y = cc in subst (λ t. depth t ≤ 128) e (leb-true (depth x) 128 h)
+chosen_shallow x y false h p = absurd (cc)
+
 not_key : (b : Bool) (x : Tree) → cond b (Ok x) (Err ser.TooDeep) ≡ Err ser.Key → ⊥
 not_key true x p = cc
 not_key false x p = cc
@@ -42,6 +50,11 @@ module _ {A : Type 0} (make : A → Tree) where
   pub within_ok : (r : Result A SerError) (t : Tree) → bind r (λ x. within (make x)) ≡ Ok t → (x : A) × (r ≡ Ok x) × (t ≡ make x)
   within_ok (Ok x) t p = (x, refl, sym (chosen (nat_le (depth (make x)) 128) (make x) t ser.TooDeep p))
   within_ok (Err e) t p = absurd (cc)
+
+  -- and has at most 128 levels
+  pub within_shallow : (r : Result A SerError) (t : Tree) → bind r (λ x. within (make x)) ≡ Ok t → depth t ≤ 128
+  within_shallow (Ok x) t p = chosen_shallow (make x) t (nat_le (depth (make x)) 128) refl p
+  within_shallow (Err e) t p = absurd (cc)
 
   pub within_key : (r : Result A SerError) → bind r (λ x. within (make x)) ≡ Err ser.Key → r ≡ Err ser.Key
   within_key (Ok x) p = absurd (not_key (nat_le (depth (make x)) 128) (make x) p)
@@ -92,6 +105,25 @@ module _ (P : Meaning → Type 0) (w : Writes) (m : Mode) where
   pub list_written_kind : WritesKind (IsListOf P) (list_writes w) m kind.List
   list_written_kind (list vs) t h p = ap kind_of ((within_ok (λ ts. node.list (trees ts)) (traverse (w (at_value m)) (parts vs)) t p).2)
   list_written_kind _ t h p = absurd h
+
+-- what is written is a tree that a node can be, where the parts are
+pub list_nodes : (P : Meaning → Type 0) (w : Writes) → WritesNodes P w → WritesNodes (IsListOf P) (list_writes w)
+list_nodes P w part m (list vs) t h p =
+    let f = w (at_value m) in
+    let make = λ (ts : List Tree). node.list (trees ts) in
+    let c = within_ok make (traverse f (parts vs)) t p in
+    let shallow = within_shallow make (traverse f (parts vs)) t p in
+    let each : Each IsNodeTree c.0 = traverse-each f P IsNodeTree (part (at_value m)) (parts vs) c.0 h c.1 in
+    rw c.2 (list-is_node c.0 each (subst (λ u. depth u ≤ 128) c.2 shallow))
+list_nodes P w part m _ t h p = absurd h
+
+pub each_normed : (P : Meaning → Type 0) (n : Meaning → Meaning) → ((v : Meaning) → P v → P (n v)) → (vs : List Meaning) → Each P vs → Each P (list_map n vs)
+each_normed P n one [] h = tt
+each_normed P n one (v ∷ vs) h = (one v h.0, each_normed P n one vs h.1)
+
+pub list_norms : (P : Meaning → Type 0) (n : Norm) → NormsWithin P n → NormsWithin (IsListOf P) (list_norm n)
+list_norms P n part m (list vs) h = rw (parts-meanings (list_map (n (at_value m)) (parts vs))) (each_normed P (n (at_value m)) (part (at_value m)) (parts vs) h)
+list_norms P n part m _ h = absurd h
 
 pub list_read_kind : (r : Reads) (m : Mode) → ReadsKind (list_reads r) m kind.List
 list_read_kind r m (node.list ts) v p = refl

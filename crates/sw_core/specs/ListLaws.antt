@@ -4,7 +4,9 @@ use Rattle.std.proofs.Common.{refl, arith}
 use Rattle.sw_tree.specs.Meaning.{Meaning, list, meanings, parts-meanings}
 use Rattle.sw_tree.specs.Meant.{IsListOf}
 use Rattle.sw_tree.specs.Mode.{at_value}
+use Rattle.sw_tree.specs.NodeTrees.{items-are_nodes}
 use Rattle.sw_tree.specs.Placed.{spot_items, spot_next}
+use Rattle.sw_tree.specs.Proper.{IsNodeTree}
 use Rattle.sw_tree.specs.Steps.{bind, bind_ok, traverse, Each}
 use Rattle.sw_tree.specs.Tree.{Tree, Trees, no_trees, tree, items, size, trees_size}
 use Rattle.sw_tree.specs.Tree as node
@@ -20,13 +22,13 @@ traverse-cons f x xs zs p =
     let b = bind_ok (traverse f xs) (λ ys. Ok (a.0 ∷ ys)) zs a.2 in
     (a.0, b.0, a.1, b.1, (cc b.2))
 
--- what is read item by item keeps what each item keeps
-module _ {A B E : Type 0} (g : B → Result A E) (P : A → Type 0) (one : (y : B) (x : A) → g y ≡ Ok x → P x) where
-  pub traverse-each : (ys : List B) (xs : List A) → traverse g ys ≡ Ok xs → Each P xs
-  traverse-each [] xs p = let e : [] ≡ xs = cc in rw (← e) tt
-  traverse-each (y ∷ ys) xs p =
+-- what is made item by item keeps what each item keeps
+module _ {A B E : Type 0} (g : B → Result A E) (Q : B → Type 0) (P : A → Type 0) (one : (y : B) (x : A) → Q y → g y ≡ Ok x → P x) where
+  pub traverse-each : (ys : List B) (xs : List A) → Each Q ys → traverse g ys ≡ Ok xs → Each P xs
+  traverse-each [] xs h p = let e : [] ≡ xs = cc in rw (← e) tt
+  traverse-each (y ∷ ys) xs h p =
       let c = traverse-cons g y ys xs p in
-      rw c.4 (one y c.0 c.2, traverse-each ys c.1 c.3)
+      rw c.4 (one y c.0 h.0 c.2, traverse-each ys c.1 h.1 c.3)
 
 pub later_refused : {A E : Type 0} (v : A) (q : Result (List A) E) (e : E) → bind q (λ vs. Ok (v ∷ vs)) ≡ Err e → q ≡ Err e
 later_refused v (Ok vs) e p = absurd (cc)
@@ -52,12 +54,12 @@ module _ {M : Type 0} (f : Tree → Result M DeError) (g : Tree → ℕ) (h : (t
   items_inside (tree t ts) e p = first_inside t ts (f t) refl e p (λ d q. items_inside ts d q)
 
 module _ (P : Meaning → Type 0) (r : Reads) (k : Spots) (law : LawfulReading P r k) where
-  list_meanings : (m : Mode) (t : Tree) (v : Meaning) → list_reads r m t ≡ Ok v → IsListOf P v
-  list_meanings m (node.list ts) v p =
+  list_meanings : (m : Mode) (t : Tree) (v : Meaning) → IsNodeTree t → list_reads r m t ≡ Ok v → IsListOf P v
+  list_meanings m (node.list ts) v n p =
       let q = listed_ok (traverse (r (at_value m)) (items ts)) v p in
-      let e : Each P q.0 = traverse-each (r (at_value m)) P (law.meanings (at_value m)) (items ts) q.0 q.1 in
+      let e : Each P q.0 = traverse-each (r (at_value m)) IsNodeTree P (law.meanings (at_value m)) (items ts) q.0 (items-are_nodes ts n) q.1 in
       rw (q.2, parts-meanings q.0) e
-  list_meanings m _ v p = absurd (cc)
+  list_meanings m _ v n p = absurd (cc)
 
   list_inside : (m : Mode) (t : Tree) (e : DeError) → list_reads r m t ≡ Err e → list_spot r k m t < size t
   list_inside m (node.list ts) e p = omega (arith, items_inside (r (at_value m)) (k (at_value m)) (law.inside (at_value m)) ts e (listed_refused (traverse (r (at_value m)) (items ts)) e p))

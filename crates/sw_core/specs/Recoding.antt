@@ -6,7 +6,7 @@ use Rattle.sw_tree.specs.Mode.{plain}
 use Rattle.sw_tree.specs.Placed.{Note}
 use Rattle.sw_tree.specs.Steps.{bind}
 use Rattle.sw_tree.specs.Tree.{Tree}
-use Rattle.sw_tree.specs.Wires.{Spelled, Printed}
+use Rattle.sw_tree.specs.Wires.{Spelled, Texts, printed}
 use Rattle.sw_tree.specs.declared.mode.WireKind.{WireKind}
 use Rattle.sw_tree.specs.declared.fail.DeError.{DeError}
 use Rattle.sw_tree.specs.declared.fail.DeFail.{DeFail}
@@ -48,17 +48,17 @@ written (Ok u) = Ok u
 written (Err e) = Err (fail.Unwritable e)
 
 -- the text that is printed
-abbrev pub text : Option (List ℕ) → Result (List ℕ) RecodeError
-text (Some b) = Ok b
-text None = Err (fail.Unwritable reason.Key)
+abbrev pub shown : Option (List ℕ) → Result (List ℕ) RecodeError
+shown (Some b) = Ok b
+shown None = Err (fail.Unwritable reason.Key)
 
 -- The value and its new text, or the first error on the way.
-abbrev pub answer : Reads → Spots → Writes → WireKind → Spelled → Printed → List ℕ → Result (Meaning × List ℕ) RecodeError
-answer reads spot writes w spelled printed bytes =
+abbrev pub answer : Reads → Spots → Writes → WireKind → Spelled → Texts → List ℕ → Result (Meaning × List ℕ) RecodeError
+answer reads spot writes w spelled text bytes =
     bind (found (spelled bytes)) (λ t.
     bind (read (spot (plain w) t) (reads (plain w) t)) (λ v.
     bind (written (writes (plain w) v)) (λ u.
-    bind (text (printed u)) (λ b.
+    bind (shown (printed w text u)) (λ b.
     Ok (v, b)))))
 
 -- the notes, each at its node's number

@@ -11,7 +11,7 @@ use Rattle.sw_elem.specs.Equations.{Writes, Reads, Spots, Skips}
 use Rattle.sw_elem.specs.Laws.{Norm}
 use Rattle.sw_elem.specs.Lawful.{Lawful}
 use Rattle.sw_core.specs.Lists.{list_writes, list_reads, list_spot, list_skips}
-use Rattle.sw_core.specs.ListBack.{list_norm, list_imaged, list_back, list_never_key, list_written_kind, list_read_kind, list_exact, list_unmarked}
+use Rattle.sw_core.specs.ListBack.{list_norm, list_imaged, list_back, list_never_key, list_written_kind, list_read_kind, list_exact, list_unmarked, list_nodes, list_norms}
 use Rattle.sw_core.specs.ListSpots.{list_spot_kinds, list_note_kinds}
 
 module _ (P : Meaning → Type 0) (w : Writes) (r : Reads) (s : Spots) (k : Skips) (e : Form) (n : Norm) (a : Type 0) (part : Lawful P w r s k e n a) where
@@ -27,4 +27,6 @@ module _ (P : Meaning → Type 0) (w : Writes) (r : Reads) (s : Spots) (k : Skip
         exact = λ m g. list_exact P n m (part.exact (at_value m) g);
         spot_kinds = λ m. list_spot_kinds r s m (part.spot_kinds (at_value m));
         note_kinds = λ m. list_note_kinds r k m (part.note_kinds (at_value m));
+        nodes = list_nodes P w part.nodes;
+        norms = list_norms P n part.norms;
       }

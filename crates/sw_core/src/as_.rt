@@ -1,16 +1,17 @@
-ghost use Rattle.std.specs.Prelude.{◌≡◌, ◌≢◌, ◌≤◌, true, Err, IfOk};
+ghost use Rattle.std.specs.Prelude.{◌≡◌, ◌≢◌, ◌≤◌, true, Ok, Err, IfOk};
 ghost use Rattle.sw_tree.specs.Placed.{placed, placed_notes};
 ghost use Rattle.sw_tree.specs.View.{seen, tree_of};
 ghost use Rattle.sw_tree.specs.Mode.{plain};
 ghost use Rattle.sw_tree.specs.Tree.{depth};
 ghost use Rattle.sw_tree.specs.Proper.{IsProper};
-ghost use Rattle.sw_tree.specs.Wires.{IsPrinted};
+ghost use Rattle.sw_tree.specs.Short.{IsShort};
+ghost use Rattle.sw_tree.specs.Wires.{IsPrinted, printed};
 ghost use Rattle.sw_tree.specs.declared.fail.SerError.TheVariants.{Key};
 ghost use Rattle.sw_check.specs.Grade.{grade};
 ghost use Rattle.sw_check.specs.declared.grade.Grade.TheVariants.{Exact};
 ghost use Rattle.sw_elem.specs.Answers.{IsWritten, IsRead, IsLogged, ReadsFreely};
 ghost use Rattle.sw_core.specs.Recoding.{answer, skipped, IsRecoded, IsNoted};
-ghost use Rattle.sw_core.specs.Again.{ReadsAgain};
+ghost use Rattle.sw_core.specs.Again.{SpellsImage, ReadsAgain};
 ghost use Rattle.sw_core.specs.declared.recode.RecodeError.TheVariants.{Unwritable};
 
 use crate::adapter::{Adapter, DeserializeAs, SerializeAs};
@@ -41,7 +42,7 @@ impl<A> As<A> {
         A::serialize_as(alloc, value, mode)
     }
 
-    /// The value of the view's tree, as `A::deserialize_as` answers.
+    /// The value of the view's tree, as `A::deserialize_as` answers. Its meaning is one of the type's.
     pub fn deserialize<T: Meant>(
         alloc: Global,
         view: View<'_>,
@@ -53,14 +54,17 @@ impl<A> As<A> {
         ensures answer { IsRead T.meaning result (placed (A.reads mode) (A.spot mode) (seen view.entry)) }
         ensures logs { IsLogged result log.old (placed_notes (seen view.entry) (A.skips mode (tree_of view.entry))) log.new }
         ensures free { A.FREE ≡ true → ReadsFreely result }
+        ensures meant { IfOk result (λ x. T.is_meaning (T.meaning x)) }
     {
+        let _kind = view.kind();
         A::deserialize_as(alloc, view, mode, log)
     }
 
     /// The value that the bytes mean, and the text that it is written as.
     ///
-    /// With the token these bytes, read again, give the norm of the value; where the token's grade is `Exact`, the
-    /// value itself. That holds under what `A` assumes.
+    /// These bytes spell the image of the tree that `A` writes for the value. With the token that image is read as the
+    /// norm of the value; where the token's grade is `Exact`, as the value itself, and these bytes, recoded, give the same value
+    /// and the same bytes, or want of memory. What is said of reading holds under what `A` assumes.
     ///
     /// In this order: `Syntax`, `NotWhole` or `TooDeep`, exactly where the bytes spell no tree of `W`, for that
     /// reason; `Refused`, exactly where `A` refuses the tree, with its reason and the place of the refused node;
@@ -77,16 +81,20 @@ impl<A> As<A> {
     ) -> Result<(T, Vec<u8>), RecodeError>
     where
         A: Adapter<T>,
-        ensures answers { IsRecoded T.meaning result (answer A.reads A.spot A.writes W.ID W.spelled W.printed bytes.now) }
+        ensures answers { IsRecoded T.meaning result (answer A.reads A.spot A.writes W.ID W.spelled W.text bytes.now) }
         ensures logs { IsNoted result log.old (skipped A.skips W.ID W.spelled bytes.now) log.new }
-        ensures again { A.assumes → IfOk result (λ p. ReadsAgain (A.reads (plain W.ID)) W.spelled p.1.items (A.norm (plain W.ID) (T.meaning p.0))) }
+        ensures spells { IfOk result (λ p. SpellsImage A.writes W.ID W.spelled p.1.items (T.meaning p.0)) }
+        ensures again { A.assumes
+            → IfOk result (λ p. ReadsAgain A.writes A.reads W.ID W.spelled p.1.items (T.meaning p.0) (A.norm (plain W.ID) (T.meaning p.0))) }
         ensures same { A.assumes → grade A.expr (plain W.ID) ≡ Exact
-            → IfOk result (λ p. ReadsAgain (A.reads (plain W.ID)) W.spelled p.1.items (T.meaning p.0)) }
+            → IfOk result (λ p. ReadsAgain A.writes A.reads W.ID W.spelled p.1.items (T.meaning p.0) (T.meaning p.0)) }
+        ensures settled { A.assumes → grade A.expr (plain W.ID) ≡ Exact
+            → IfOk result (λ p. answer A.reads A.spot A.writes W.ID W.spelled W.text p.1.items ≡ Ok (T.meaning p.0, p.1.items)) }
         ensures never_key { result ≢ Err (Unwritable Key) }
     {
         let mode = Mode::plain(W::ID);
         let doc = W::read_tree(alloc, bytes)?;
-        let value = A::deserialize_as(alloc, doc.view(), mode, log)?;
+        let value = As::<A>::deserialize::<T>(alloc, doc.view(), mode, log)?;
         drop(doc);
         let written = A::serialize_as(alloc, &value, mode)?;
         let text = text_of::<W>(alloc, written)?;
@@ -96,9 +104,10 @@ impl<A> As<A> {
 
 /// The text of the node, which is then let go; and what the law of a wire asks of a node's tree.
 fn text_of<W: Wire>(alloc: Global, node: Node) -> Result<Vec<u8>, PrintError>
-    ensures text { IsPrinted result (W.printed node) }
+    ensures text { IsPrinted result (printed W.ID W.text node) }
     ensures proper { IsProper node }
     ensures shallow { depth node ≤ 128 }
+    ensures short { IsShort node }
 {
     let _kind = node.kind();
     W::print(alloc, &node)

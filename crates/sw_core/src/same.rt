@@ -22,8 +22,6 @@ impl<T: Serialize> SerializeAs<T> for Same {
 }
 
 impl<T: Deserialize> DeserializeAs<T> for Same {
-    ghost use Rattle.sw_elem.specs.Equations.{no_skips};
-
     const FREE: bool = T::FREE;
 
     ghost FREE = { T.FREE };
@@ -32,7 +30,7 @@ impl<T: Deserialize> DeserializeAs<T> for Same {
 
     ghost spot = { T.spot };
 
-    ghost skips = { no_skips };
+    ghost skips = { T.skips };
 
     fn deserialize_as(
         alloc: Global,
@@ -49,6 +47,7 @@ impl<T: Deserialize> DeserializeAs<T> for Same {
 impl<T: Element> Adapter<T> for Same {
     ghost use Rattle.sw_check.specs.Form.{leaf};
     ghost use Rattle.sw_elem.specs.Lawful.{same_norm};
+    ghost use Rattle.sw_elem.specs.Leaf.{leaf_lawful};
 
     ghost expr = { leaf T.known };
 
@@ -60,5 +59,5 @@ impl<T: Element> Adapter<T> for Same {
         Ok(Expr::leaf(T::facts()))
     }
 
-    ghost keeps = { T.keeps };
+    ghost keeps = { leaf_lawful T.is_meaning T.writes T.reads T.spot T.skips T.known same_norm (Unit {0}) T.keeps T.passes_nothing };
 }

@@ -1,5 +1,9 @@
-ghost use Rattle.std.specs.Prelude.{◌≡◌, pos, IfSome};
+ghost use Rattle.std.specs.Prelude.{◌≡◌, ◌≢◌, pos, Err, IfOk, IfSome};
+ghost use Rattle.sw_tree.specs.Mode.{plain};
 ghost use Rattle.sw_tree.specs.Tree.{int};
+ghost use Rattle.sw_tree.specs.declared.fail.SerError.TheVariants.{Key};
+ghost use Rattle.sw_core.specs.Again.{ReadsAgain};
+ghost use Rattle.sw_core.specs.declared.recode.RecodeError.TheVariants.{Unwritable};
 
 use crate::adapter::{Adapter, DeserializeAs};
 use crate::as_::As;
@@ -10,6 +14,7 @@ use crate::laws::{
 };
 use crate::recode::RecodeError;
 use crate::same::Same;
+use crate::token::Faithful;
 use std::alloc::{AllocError, Global};
 use sw_check::blame::CheckFail;
 use sw_check::check;
@@ -20,6 +25,7 @@ use sw_tree::builder::DocBuilder;
 use sw_tree::content::Content;
 use sw_tree::doc::Doc;
 use sw_tree::fail::{DeError, DeFail, PrintError, Refusal, WireError};
+use sw_tree::meant::Meant;
 use sw_tree::mode::{Kind, Mode, WireKind};
 use sw_tree::node::Node;
 use sw_tree::skipped::Skipped;
@@ -144,15 +150,19 @@ struct ByteWire;
 
 impl Wire for ByteWire {
     ghost use Rattle.sw_tree.specs.declared.mode.WireKind.TheVariants.{Compact};
-    ghost use Rattle.sw_core.specs.ByteWire.{byte_spelled, byte_printed, byte_prints_images};
+    ghost use Rattle.sw_core.specs.ByteWire.{byte_spells, byte_spelled, byte_text, byte_grammar, byte_prints_images};
 
     const ID: WireKind = WireKind::Compact;
 
     ghost ID = { Compact };
 
+    ghost spells = { byte_spells };
+
     ghost spelled = { byte_spelled };
 
-    ghost printed = { byte_printed };
+    ghost text = { byte_text };
+
+    ghost grammar = { byte_grammar };
 
     ghost prints_images = { byte_prints_images };
 
@@ -213,6 +223,49 @@ fn a_number_is_recoded(rt: HostRuntime) {
                 assert!(rt; log.notes().is_empty());
             }
         }
+    }
+}
+
+/// The bytes of a value, as a store keeps them: it rests on the token alone, and on what the wire prints.
+fn stored<T: Meant, A: Adapter<T>, W: Wire>(
+    alloc: Global,
+    token: &Faithful<A, T, W>,
+    value: &T,
+) -> Result<Vec<u8>, RecodeError>
+    ensures again { A.assumes
+        → IfOk result (λ b. ReadsAgain A.writes A.reads W.ID W.spelled b.items (T.meaning value.now) (A.norm (plain W.ID) (T.meaning value.now))) }
+    ensures never_key { result ≢ Err (Unwritable Key) }
+{
+    token.keeps(value);
+    let node = As::<A>::serialize(alloc, value, Mode::plain(W::ID))?;
+    let _kind = node.kind();
+    match W::print(alloc, &node) {
+        Ok(bytes) => Ok(bytes),
+        Err(error) => Err(RecodeError::from(error)),
+    }
+}
+
+#[test]
+fn a_stored_number_is_read_again(rt: HostRuntime) {
+    let alloc = rt.alloc();
+    let bytes = match faithful::<Same, u8, ByteWire>(alloc) {
+        Ok(token) => stored(alloc, &token, &7),
+        Err(_) => Err(RecodeError::Syntax),
+    };
+    match &bytes {
+        Ok(bytes) => {
+            assert!(rt; bytes.as_slice() == b"\x07".as_slice());
+            let mut log = Skipped::new(alloc);
+            match ByteWire::read_tree(alloc, bytes.as_slice()) {
+                Ok(doc) => {
+                    let mode = Mode::plain(WireKind::Compact);
+                    let value = As::<Same>::deserialize::<u8>(alloc, doc.view(), mode, &mut log);
+                    assert!(rt; matches!(value, Ok(7)));
+                }
+                Err(_) => assert!(rt; false),
+            }
+        }
+        Err(_) => assert!(rt; false),
     }
 }
 

@@ -2,6 +2,7 @@ ghost use Rattle.std.specs.Prelude.{◌≡◌};
 ghost use Rattle.sw_tree.specs.Mode.{plain};
 ghost use Rattle.sw_check.specs.Blame.{IsSound};
 ghost use Rattle.sw_check.specs.Grade.{grade};
+ghost use Rattle.sw_core.specs.Again.{IsKept};
 
 use crate::adapter::Adapter;
 use std::marker::PhantomData;
@@ -38,5 +39,14 @@ impl<A: Adapter<T>, T: Meant, W: Wire> Faithful<A, T, W> {
         ensures { result ≡ grade A.expr (plain W.ID) }
     {
         self.kept
+    }
+
+    /// Does nothing. Its contract is the promise that a store rests on: what `As::<A>::serialize` answers for this value
+    /// in the plain mode of `W` has an image, is never refused for a key, and its image, which its printed bytes spell, is read
+    /// by `As::<A>::deserialize` as the norm of the value, under what `A` assumes.
+    pub fn keeps(&self, value: &T)
+        ensures { IsKept A.writes A.reads W.ID W.spelled W.text A.norm A.assumes (T.meaning value.now) }
+    {
+        value.in_hand();
     }
 }
