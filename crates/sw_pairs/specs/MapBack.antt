@@ -1,12 +1,14 @@
 -- What a map of pairs keeps, from what its keys and values keep: it has an image, which is read back; and it is a map.
-use Rattle.std.specs.Prelude.{◌≡◌, List, map as list_map, false, Option, Some, None, option_map, Result, Ok, Err}
-use Rattle.std.proofs.Common.{refl, ap, sym, ◌∙◌}
+use Rattle.std.specs.Prelude.{◌≡◌, ◌≤◌, List, map as list_map, false, Option, Some, None, option_map, Result, Ok, Err}
+use Rattle.std.proofs.Common.{refl, ap, sym, subst, ◌∙◌}
 use Rattle.sw_tree.specs.Image.{image}
-use Rattle.sw_tree.specs.Meaning.{Meaning, list, meaning, no_meanings, meanings, parts, meanings-parts}
+use Rattle.sw_tree.specs.Meaning.{Meaning, list, meaning, no_meanings, meanings, parts, parts-meanings, meanings-parts}
 use Rattle.sw_tree.specs.Meant.{pair, IsListOf, IsPairOf}
 use Rattle.sw_tree.specs.Mode.{at_key, at_value, marked}
+use Rattle.sw_tree.specs.NodeTrees.{AreNodeTrees, map-is_node}
 use Rattle.sw_tree.specs.Placed.{pair_of}
-use Rattle.sw_tree.specs.Steps.{bind, traverse, option_traverse}
+use Rattle.sw_tree.specs.Proper.{IsNodeTree}
+use Rattle.sw_tree.specs.Steps.{bind, traverse, option_traverse, Each}
 use Rattle.sw_tree.specs.Tree.{Tree, entries, pairs, pairs-entries, depth, kind_of}
 use Rattle.sw_tree.specs.Tree as node
 use Rattle.sw_tree.specs.declared.mode.Kind.TheVariants as kind
@@ -20,9 +22,10 @@ use Rattle.sw_tree.specs.declared.fail.DeError.{DeError}
 use Rattle.sw_elem.specs.Equations.{Writes, Reads}
 use Rattle.sw_core.specs.Lists.{within}
 use Rattle.sw_pairs.specs.Maps.{pair_writes, map_writes, map_reads, pairs_meaning}
-use Rattle.sw_elem.specs.Laws.{Norm, HasImages, ReadsBack, NeverKey, WritesKind, ReadsKind, IsUnmarked, IsExact}
+use Rattle.sw_elem.specs.Laws.{Norm, HasImages, ReadsBack, NeverKey, WritesKind, ReadsKind, IsUnmarked, IsExact, WritesNodes, NormsWithin}
 use Rattle.sw_check.specs.Rules.{is_json_key}
-use Rattle.sw_core.specs.ListBack.{within_ok, within_key, mapped_some}
+use Rattle.sw_core.specs.ListLaws.{traverse-each}
+use Rattle.sw_core.specs.ListBack.{within_ok, within_shallow, within_key, mapped_some, each_normed}
 use Rattle.sw_core.specs.ListImages.{image-elsewhere}
 use Rattle.sw_core.specs.EachBack.{each_imaged, each_back, each_never, each_kept, each_same}
 use Rattle.sw_pairs.specs.MapImages.{both_images, pair_image, map_image}
@@ -129,6 +132,32 @@ module _ (P Q : Meaning → Type 0) (k w : Writes) (m : Mode) where
   pub map_written_kind : WritesKind (IsListOf (IsPairOf P Q)) (map_writes k w) m kind.Map
   map_written_kind (list vs) t h p = ap kind_of ((within_ok (λ es. node.map (entries es)) (traverse (pair_writes (k (at_key m)) (w (at_value m))) (parts vs)) t p).2)
   map_written_kind _ t h p = absurd h
+
+pair_nodes : (P Q : Meaning → Type 0) (f g : Meaning → Result Tree SerError) → ((v : Meaning) (t : Tree) → P v → f v ≡ Ok t → IsNodeTree t) → ((v : Meaning) (t : Tree) → Q v → g v ≡ Ok t → IsNodeTree t) →
+    (x : Meaning) (y : Tree × Tree) → IsPairOf P Q x → pair_writes f g x ≡ Ok y → AreNodeTrees y
+pair_nodes P Q f g keys values (list (meaning a (meaning b no_meanings))) y h p = let c = pair_written (f a) (g b) y p in (keys a y.0 h.0 c.0, values b y.1 h.1 c.1)
+pair_nodes P Q f g keys values _ y h p = absurd h
+
+-- what is written is a tree that a node can be, where the keys' and the values' are
+pub map_nodes : (P Q : Meaning → Type 0) (k w : Writes) → WritesNodes P k → WritesNodes Q w → WritesNodes (IsListOf (IsPairOf P Q)) (map_writes k w)
+map_nodes P Q k w keys values m (list vs) t h p =
+    let f = pair_writes (k (at_key m)) (w (at_value m)) in
+    let make = λ (es : List (Tree × Tree)). node.map (entries es) in
+    let c = within_ok make (traverse f (parts vs)) t p in
+    let shallow = within_shallow make (traverse f (parts vs)) t p in
+    let each : Each AreNodeTrees c.0 = traverse-each f (IsPairOf P Q) AreNodeTrees (λ x y q r. pair_nodes P Q (k (at_key m)) (w (at_value m)) (keys (at_key m)) (values (at_value m)) x y q r) (parts vs) c.0 h c.1 in
+    rw c.2 (map-is_node c.0 each (subst (λ u. depth u ≤ 128) c.2 shallow))
+map_nodes P Q k w keys values m _ t h p = absurd h
+
+pair_normed : (P Q : Meaning → Type 0) (n l : Meaning → Meaning) → ((v : Meaning) → P v → P (n v)) → ((v : Meaning) → Q v → Q (l v)) → (x : Meaning) → IsPairOf P Q x → IsPairOf P Q (pair_norm n l x)
+pair_normed P Q n l keys values (list (meaning a (meaning b no_meanings))) h = (keys a h.0, values b h.1)
+pair_normed P Q n l keys values _ h = absurd h
+
+pub map_norms : (P Q : Meaning → Type 0) (n l : Norm) → NormsWithin P n → NormsWithin Q l → NormsWithin (IsListOf (IsPairOf P Q)) (map_norm n l)
+map_norms P Q n l keys values m (list vs) h =
+    let f = pair_norm (n (at_key m)) (l (at_value m)) in
+    rw (parts-meanings (list_map f (parts vs))) (each_normed (IsPairOf P Q) f (pair_normed P Q (n (at_key m)) (l (at_value m)) (keys (at_key m)) (values (at_value m))) (parts vs) h)
+map_norms P Q n l keys values m _ h = absurd h
 
 pub map_read_kind : (r q : Reads) (m : Mode) → ReadsKind (map_reads r q) m kind.Map
 map_read_kind r q m (node.map es) v p = refl

@@ -12,7 +12,7 @@ use Rattle.sw_elem.specs.Equations.{Writes, Reads, Spots, Skips}
 use Rattle.sw_elem.specs.Laws.{Norm}
 use Rattle.sw_elem.specs.Lawful.{Lawful}
 use Rattle.sw_pairs.specs.Maps.{map_writes, map_reads, map_spot, map_skips}
-use Rattle.sw_pairs.specs.MapBack.{map_norm, map_imaged, map_back, map_never_key, map_written_kind, map_read_kind, map_exact, map_unmarked}
+use Rattle.sw_pairs.specs.MapBack.{map_norm, map_imaged, map_back, map_never_key, map_written_kind, map_read_kind, map_exact, map_unmarked, map_nodes, map_norms}
 use Rattle.sw_pairs.specs.MapSpots.{map_spot_kinds, map_note_kinds}
 
 module _ (P : Meaning → Type 0) (w : Writes) (r : Reads) (s : Spots) (k : Skips) (e : Form) (n : Norm) (a : Type 0) (keys : Lawful P w r s k e n a)
@@ -31,4 +31,6 @@ module _ (P : Meaning → Type 0) (w : Writes) (r : Reads) (s : Spots) (k : Skip
             map_exact P Q n o m (keys.exact (at_key m) (exact_is (grade e (at_key m)) c.0)) (values.exact (at_value m) (exact_is (grade f (at_value m)) c.1));
         spot_kinds = λ m. map_spot_kinds r s q z m (keys.spot_kinds (at_key m)) (values.spot_kinds (at_value m));
         note_kinds = λ m. map_note_kinds r k q l m (keys.note_kinds (at_key m)) (values.note_kinds (at_value m));
+        nodes = map_nodes P Q w x keys.nodes values.nodes;
+        norms = map_norms P Q n o keys.norms values.norms;
       }

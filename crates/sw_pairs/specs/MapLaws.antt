@@ -4,7 +4,9 @@ use Rattle.std.proofs.Common.{refl, arith}
 use Rattle.sw_tree.specs.Meaning.{Meaning, parts-meanings}
 use Rattle.sw_tree.specs.Meant.{pair, IsListOf, IsPairOf}
 use Rattle.sw_tree.specs.Mode.{at_key, at_value}
+use Rattle.sw_tree.specs.NodeTrees.{AreNodeTrees, pairs-are_nodes}
 use Rattle.sw_tree.specs.Placed.{pair_of, spot_entries, spot_next}
+use Rattle.sw_tree.specs.Proper.{IsNodeTree}
 use Rattle.sw_tree.specs.Steps.{bind, bind_ok, traverse, Each}
 use Rattle.sw_tree.specs.Tree.{Tree, Entries, no_entries, entry, pairs, size, entries_size}
 use Rattle.sw_tree.specs.Tree as node
@@ -23,13 +25,13 @@ module _ (P Q : Meaning → Type 0) where
   pairs_are [] h = tt
   pairs_are (p ∷ ps) h = (h.0, pairs_are ps h.1)
 
-  module _ {E : Type 0} (f g : Tree → Result Meaning E) (keys : (t : Tree) (v : Meaning) → f t ≡ Ok v → P v) (values : (t : Tree) (v : Meaning) → g t ≡ Ok v → Q v) where
-    pub pair_meanings : (e : Tree × Tree) (p : Meaning × Meaning) → pair_of f g e ≡ Ok p → AreOf p
-    pair_meanings e p is =
+  module _ {E : Type 0} (f g : Tree → Result Meaning E) (keys : (t : Tree) (v : Meaning) → IsNodeTree t → f t ≡ Ok v → P v) (values : (t : Tree) (v : Meaning) → IsNodeTree t → g t ≡ Ok v → Q v) where
+    pub pair_meanings : (e : Tree × Tree) (p : Meaning × Meaning) → AreNodeTrees e → pair_of f g e ≡ Ok p → AreOf p
+    pair_meanings e p h is =
         let a = bind_ok (f e.0) (λ x. bind (g e.1) (λ y. Ok (x, y))) p is in
         let b = bind_ok (g e.1) (λ y. Ok (a.0, y)) p a.2 in
         let q : (a.0, b.0) ≡ p = cc b.2 in
-        rw (← q) (keys e.0 a.0 a.1, values e.1 b.0 b.1)
+        rw (← q) (keys e.0 a.0 h.0 a.1, values e.1 b.0 h.1 b.1)
 
 paired_ok : (r : Result (List (Meaning × Meaning)) DeError) (v : Meaning) → bind r (λ ps. Ok (pairs_meaning ps)) ≡ Ok v → (ps : List (Meaning × Meaning)) × (r ≡ Ok ps) × (v ≡ pairs_meaning ps)
 paired_ok (Ok ps) v p = (ps, refl, (cc))
@@ -59,14 +61,14 @@ module _ {K V : Type 0} (f : Tree → Result K DeError) (g : Tree → ℕ) (h : 
   entries_inside (entry a b es) e p = next_inside a b es (f a) (h b) refl refl e p (λ d q. entries_inside es d q)
 
 module _ (P Q : Meaning → Type 0) (k : Reads) (s : Spots) (keys : LawfulReading P k s) (r : Reads) (z : Spots) (values : LawfulReading Q r z) where
-  map_meanings : (m : Mode) (t : Tree) (v : Meaning) → map_reads k r m t ≡ Ok v → IsListOf (IsPairOf P Q) v
-  map_meanings m (node.map es) v p =
+  map_meanings : (m : Mode) (t : Tree) (v : Meaning) → IsNodeTree t → map_reads k r m t ≡ Ok v → IsListOf (IsPairOf P Q) v
+  map_meanings m (node.map es) v n p =
       let f = k (at_key m) in
       let g = r (at_value m) in
       let q = paired_ok (traverse (pair_of f g) (pairs es)) v p in
-      let e : Each (AreOf P Q) q.0 = traverse-each (pair_of f g) (AreOf P Q) (pair_meanings P Q f g (keys.meanings (at_key m)) (values.meanings (at_value m))) (pairs es) q.0 q.1 in
+      let e : Each (AreOf P Q) q.0 = traverse-each (pair_of f g) AreNodeTrees (AreOf P Q) (pair_meanings P Q f g (keys.meanings (at_key m)) (values.meanings (at_value m))) (pairs es) q.0 (pairs-are_nodes es n) q.1 in
       rw (q.2, parts-meanings (list_map (λ (x : Meaning × Meaning). pair x.0 x.1) q.0)) (pairs_are P Q q.0 e)
-  map_meanings m _ v p = absurd (cc)
+  map_meanings m _ v n p = absurd (cc)
 
   map_inside : (m : Mode) (t : Tree) (e : DeError) → map_reads k r m t ≡ Err e → map_spot k s r z m t < size t
   map_inside m (node.map es) e p =

@@ -6,6 +6,7 @@ use Rattle.sw_tree.specs.Kinds.{is_kind}
 use Rattle.sw_tree.specs.Meaning.{Meaning, list, no_meanings, meaning}
 use Rattle.sw_tree.specs.Meant.{IsListOf}
 use Rattle.sw_tree.specs.Mode.{at_value, marked}
+use Rattle.sw_tree.specs.Proper.{IsNodeTree}
 use Rattle.sw_tree.specs.Steps.{bind}
 use Rattle.sw_tree.specs.Tree.{Tree, Trees, kind_of}
 use Rattle.sw_tree.specs.Tree as node
@@ -24,11 +25,11 @@ use Rattle.sw_check.specs.Blame.{IsSound}
 use Rattle.sw_check.specs.Sound.{sound-checked, sound-rule, sound-no_key}
 use Rattle.sw_check.specs.declared.rule.Rule.TheVariants.{S3}
 use Rattle.sw_elem.specs.Equations.{Writes, Reads, Spots, Skips, own_spot}
-use Rattle.sw_elem.specs.Laws.{Norm, HasImages, ReadsBack, NeverKey, IsUnmarked}
+use Rattle.sw_elem.specs.Laws.{Norm, HasImages, ReadsBack, NeverKey, IsUnmarked, WritesNodes}
 use Rattle.sw_elem.specs.Lawful.{Lawful}
 use Rattle.sw_core.specs.Lists.{list_writes, list_reads}
 use Rattle.sw_core.specs.ListImages.{image-elsewhere}
-use Rattle.sw_core.specs.ListBack.{list_norm, list_imaged, list_back, list_never_key, list_written_kind, list_read_kind, list_exact, list_unmarked}
+use Rattle.sw_core.specs.ListBack.{list_norm, list_imaged, list_back, list_never_key, list_written_kind, list_read_kind, list_exact, list_unmarked, list_nodes, list_norms}
 use Rattle.sw_core.specs.ListSpots.{list_note_kinds}
 use Rattle.sw_policy.specs.Options.{or_later}
 use Rattle.sw_policy.specs.PickFirst.{or_no_variant}
@@ -161,6 +162,12 @@ module _ {P : Meaning → Type 0} {w : Writes} {r : Reads} {s : Spots} {k : Skip
       (λ q. or_right own listed (ap (is_kind kind.List) (list_read_kind r (marked m) t v q)))
       (or_no_variant-ok (or_later (alone_reads r (marked m) t) (or_later second (Err []))) v p)
 
+  nodes : WritesNodes (IsListOf P) (one_or_many_writes b w)
+  nodes m v t h p =
+      by_form w b m (λ x. IsListOf P x → IsNodeTree t) (Ok t)
+      (λ x q y. part.nodes (at_value m) x t y.0 q)
+      (λ x q y. list_nodes P w part.nodes m x t y q) v p h
+
   pub one_or_many_keeps : Lawful (IsListOf P) (one_or_many_writes b w) (one_or_many_reads r k) own_spot (one_or_many_skips r k) (one_or_many e) (one_or_many_norm n) a
   one_or_many_keeps =
       record {
@@ -173,4 +180,6 @@ module _ {P : Meaning → Type 0} {w : Writes} {r : Reads} {s : Spots} {k : Skip
         exact = λ m g. list_exact P n (marked m) (part.exact (marked (at_value m)) g);
         spot_kinds = λ m. pick_spot_kinds m (both_forms r k);
         note_kinds = λ m. pick_note_kinds m (both_forms r k) (part.note_kinds (marked (at_value m)), (list_note_kinds r k (marked m) (part.note_kinds (marked (at_value m))), tt));
+        nodes = nodes;
+        norms = λ m. list_norms P n part.norms (marked m);
       }

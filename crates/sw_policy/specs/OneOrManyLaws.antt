@@ -3,6 +3,7 @@ use Rattle.std.specs.Prelude.{◌≡◌, Result, Ok, Err}
 use Rattle.sw_tree.specs.Meaning.{Meaning, list, no_meanings, meaning}
 use Rattle.sw_tree.specs.Meant.{IsListOf}
 use Rattle.sw_tree.specs.Mode.{at_value}
+use Rattle.sw_tree.specs.Proper.{IsNodeTree}
 use Rattle.sw_tree.specs.Steps.{bind, bind_ok}
 use Rattle.sw_tree.specs.Tree.{Tree}
 use Rattle.sw_tree.specs.declared.mode.Mode.{Mode}
@@ -17,11 +18,11 @@ alone_refused (Ok v) e p = absurd (cc)
 alone_refused (Err d) e p = cc
 
 module _ (P : Meaning → Type 0) (r : Reads) (k : Spots) (law : LawfulReading P r k) where
-  alone_meanings : (m : Mode) (t : Tree) (v : Meaning) → alone_reads r m t ≡ Ok v → IsListOf P v
-  alone_meanings m t v p =
+  alone_meanings : (m : Mode) (t : Tree) (v : Meaning) → IsNodeTree t → alone_reads r m t ≡ Ok v → IsListOf P v
+  alone_meanings m t v n p =
       let q = bind_ok (r (at_value m) t) (λ x. Ok (list (meaning x no_meanings))) v p in
       let e : list (meaning q.0 no_meanings) ≡ v = cc in
-      rw (← e) (law.meanings (at_value m) t q.0 q.1, tt)
+      rw (← e) (law.meanings (at_value m) t q.0 n q.1, tt)
 
   pub alone_lawful : LawfulReading (IsListOf P) (alone_reads r) (alone_spot k)
   alone_lawful = record {

@@ -109,6 +109,8 @@ module _ {P : Meaning → Type 0} {w : Writes} {r : Reads} {s : Spots} {k : Skip
         exact = h.exact;
         spot_kinds = h.spot_kinds;
         note_kinds = h.note_kinds;
+        nodes = h.nodes;
+        norms = h.norms;
       }
 
   -- of several the first decides, buffered; `b` assumes what it assumes
@@ -127,6 +129,8 @@ module _ {P : Meaning → Type 0} {w : Writes} {r : Reads} {s : Spots} {k : Skip
         exact = λ m g. h.exact (marked m) g;
         spot_kinds = λ m. pick_spot_kinds m tried;
         note_kinds = λ m. pick_note_kinds m tried (each_notes (marked m) (e ∷ f ∷ fs) tried (is_option h, later));
+        nodes = h.nodes;
+        norms = λ m. h.norms (marked m);
       }
 
 -- so it is with two to four options, each of which keeps the laws

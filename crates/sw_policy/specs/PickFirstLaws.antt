@@ -3,6 +3,7 @@ use Rattle.std.specs.Prelude.{◌≡◌, List, [], ◌∷◌, Result, Ok, Err}
 use Rattle.std.proofs.Common.{ap}
 use Rattle.sw_tree.specs.Meaning.{Meaning}
 use Rattle.sw_tree.specs.Mode.{marked}
+use Rattle.sw_tree.specs.Proper.{IsNodeTree}
 use Rattle.sw_tree.specs.Steps.{Each}
 use Rattle.sw_tree.specs.Tree.{Tree}
 use Rattle.sw_tree.specs.declared.mode.Mode.{Mode}
@@ -24,14 +25,14 @@ or_no_variant-ok (Err ks) v p = absurd (cc)
 module _ (P : Meaning → Type 0) where
   -- what an option reads is one of those meanings
   abbrev pub GivesMeanings : Reader → Type 0
-  GivesMeanings o = (m : Mode) (t : Tree) (v : Meaning) → o.reads m t ≡ Ok v → P v
+  GivesMeanings o = (m : Mode) (t : Tree) (v : Meaning) → IsNodeTree t → o.reads m t ≡ Ok v → P v
 
-  first_meanings : (os : List Reader) → Each GivesMeanings os → (m : Mode) (t : Tree) (v : Meaning) → first_read os m t ≡ Ok v → P v
-  first_meanings [] h m t v p = absurd (cc)
-  first_meanings (o ∷ os) h m t v p = or_later-ok P (o.reads m t) (first_read os m t) v (h.0 m t v) (first_meanings os h.1 m t v) p
+  first_meanings : (os : List Reader) → Each GivesMeanings os → (m : Mode) (t : Tree) (v : Meaning) → IsNodeTree t → first_read os m t ≡ Ok v → P v
+  first_meanings [] h m t v n p = absurd (cc)
+  first_meanings (o ∷ os) h m t v n p = or_later-ok P (o.reads m t) (first_read os m t) v (h.0 m t v n) (first_meanings os h.1 m t v n) p
 
   pub pick_lawful : (os : List Reader) → Each GivesMeanings os → LawfulReading P (pick_reads os) own_spot
   pick_lawful os h = record {
-    meanings = λ m t v p. first_meanings os h (marked m) t v (or_no_variant-ok (first_read os (marked m) t) v p);
+    meanings = λ m t v n p. first_meanings os h (marked m) t v n (or_no_variant-ok (first_read os (marked m) t) v p);
     inside = λ m t e p. own_spot-inside m t;
   }
