@@ -1,40 +1,23 @@
 -- When each outcome comes.
-use Rattle.std.specs.Prelude.{ℕ, ◌≡◌, ◌<◌, List, [], ◌∷◌, length, true, Option, Some, None, Result, Ok, Err, IsOkAnd, Vec, string_bytes}
+use Rattle.std.specs.Prelude.{ℕ, ◌≡◌, ◌<◌, List, [], ◌∷◌, length, Option, Some, None, Result, Ok, Err, IsOkAnd, Vec, String, string_bytes}
 use Rattle.std.specs.declared.alloc.Global.{Global}
 use Rattle.sw_tree.specs.Fail.{kind_of_error}
-use Rattle.sw_tree.specs.Path.{Leads}
-use Rattle.sw_tree.specs.PathText.{path_text}
-use Rattle.sw_tree.specs.Tree.{Tree, size}
 use Rattle.sw_tree.specs.declared.fail.DeKind.{DeKind}
 use Rattle.sw_tree.specs.declared.fail.Refusal.{Refusal}
-use Rattle.sw_tree.specs.declared.path.Step.{Step}
-use Rattle.sw_json.specs.Spelled.{spelled}
 use Rattle.sw_core.specs.declared.recode.RecodeError.TheVariants as error
 use Rattle.sw_tool.specs.Faults.{HasRisen}
 use Rattle.sw_tool.specs.Change.{Change, Kept}
 use Rattle.sw_check.specs.PathText.{path_text as blame_path}
 use Rattle.sw_check.specs.declared.blame.Blame.{Blame}
 use Rattle.sw_check.specs.declared.grade.Grade.{Grade}
+use Rattle.sw_tool.specs.Log.{IsLogText}
 use Rattle.sw_tool.specs.Names.{grade_name}
+use Rattle.sw_tool.specs.Paths.{IsPathTo}
 use Rattle.sw_tool.specs.Reading.{limit, IsWhole, Gives}
 use Rattle.sw_tool.specs.Writing.{Gains, GainsFront, line}
 use Rattle.sw_tool.specs.Profiles.{Answer}
 use Rattle.sw_tool.specs.declared.outcome.Outcome.{Outcome}
 use Rattle.sw_tool.specs.declared.outcome.Outcome.TheVariants as outcome
-
--- the bytes spell a tree that has a node of that number
-pub record HasNode (bytes : List ℕ) (number : ℕ) : Type 0 where
-  pub tree : Tree
-  pub spells : spelled bytes ≡ Ok tree
-  pub inside : number < size tree
-
--- the text is that of steps that lead to the node of that number in the tree that the bytes spell
-pub record IsPathTo (bytes : List ℕ) (number : ℕ) (path : List ℕ) : Type 0 where
-  pub tree : Tree
-  pub spells : spelled bytes ≡ Ok tree
-  pub steps : List Step
-  pub leads : Leads (record { tree = tree; place = 0; counts = true }) number steps
-  pub printed : path ≡ path_text steps
 
 -- the nest refuses the tree, by an error of that kind, at the node of that path
 pub record IsRefused (answer : Answer) (bytes : List ℕ) (kind : DeKind) (path : List ℕ) : Type 0 where
@@ -59,28 +42,28 @@ Fails (outcome.Unwritable reason) answer bytes = answer ≡ Err (error.Unwritabl
 Fails outcome.Memory answer bytes = Unit {0}
 Fails _ answer bytes = ⊥
 
--- the nest's text for the bytes, or why there is none
-abbrev pub IsConverted : Result (Vec ℕ Global) Outcome → Answer → List ℕ → Type 0
-IsConverted (Ok text) answer bytes = IsOkAnd answer (λ p. p.1 ≡ text.items)
-IsConverted (Err o) answer bytes = Fails o answer bytes
+-- the nest's text for the bytes and the text of its log, or why there is none
+abbrev pub IsConverted : Result (Vec ℕ Global × String Global) Outcome → Answer → List Refusal → List ℕ → Type 0
+IsConverted (Ok texts) answer log bytes = IsOkAnd answer (λ p. p.1 ≡ texts.0.items) × IsLogText bytes log (string_bytes texts.1)
+IsConverted (Err o) answer log bytes = Fails o answer bytes
 
--- the output was written whole, or a front of it
-abbrev pub IsPut : Outcome → Change → List ℕ → Type 0
-IsPut outcome.Done sink output = Gains sink output
-IsPut outcome.WriteFault sink output = GainsFront sink output × HasRisen sink.before sink.after
-IsPut _ sink output = ⊥
+-- the output was written whole, and the outcome has that text of a log; or a front of the output was written
+abbrev pub IsPut : Outcome → List ℕ → Change → List ℕ → Type 0
+IsPut (outcome.Done log) told sink output = (string_bytes log ≡ told) × Gains sink output
+IsPut outcome.WriteFault told sink output = GainsFront sink output × HasRisen sink.before sink.after
+IsPut _ told sink output = ⊥
 
--- what an outcome says of the bytes that the source gave, of the nest's answer to them, and of the sink; the last row is that of the
--- outcomes for which the nest gives no text
-abbrev pub Comes : Outcome → Change → Change → List ℕ → Answer → Type 0
-Comes outcome.Done source sink gave answer = IsWhole source gave × IsOkAnd answer (λ p. Gains sink (line (p.1 ∷ [])))
-Comes outcome.WriteFault source sink gave answer = IsWhole source gave × IsOkAnd answer (λ p. GainsFront sink (line (p.1 ∷ [])) × HasRisen sink.before sink.after)
-Comes outcome.ReadFault source sink gave answer = (length gave < limit) × HasRisen source.before source.after × Kept sink
-Comes outcome.TooLong source sink gave answer = (length gave ≡ limit) × Kept sink
-Comes outcome.Memory source sink gave answer = (length gave < limit) × Kept sink
-Comes outcome.Usage source sink gave answer = ⊥
-Comes (outcome.Blamed rule path) source sink gave answer = ⊥
-Comes o source sink gave answer = IsWhole source gave × Fails o answer gave × Kept sink
+-- what an outcome says of the bytes that the source gave, of the nest's answer to them and what it passed over in them, and of the sink;
+-- the last row is that of the outcomes for which the nest gives no text
+abbrev pub Comes : Outcome → Change → Change → List ℕ → Answer → List Refusal → Type 0
+Comes (outcome.Done told) source sink gave answer log = IsWhole source gave × IsOkAnd answer (λ p. Gains sink (line (p.1 ∷ []))) × IsLogText gave log (string_bytes told)
+Comes outcome.WriteFault source sink gave answer log = IsWhole source gave × IsOkAnd answer (λ p. GainsFront sink (line (p.1 ∷ [])) × HasRisen sink.before sink.after)
+Comes outcome.ReadFault source sink gave answer log = (length gave < limit) × HasRisen source.before source.after × Kept sink
+Comes outcome.TooLong source sink gave answer log = (length gave ≡ limit) × Kept sink
+Comes outcome.Memory source sink gave answer log = (length gave < limit) × Kept sink
+Comes outcome.Usage source sink gave answer log = ⊥
+Comes (outcome.Blamed rule path) source sink gave answer log = ⊥
+Comes o source sink gave answer log = IsWhole source gave × Fails o answer gave × Kept sink
 
 -- the rule of a blame and the text of its path, or want of memory
 abbrev pub Blames : Outcome → Blame → Type 0
@@ -104,14 +87,14 @@ IsVetted (Ok token) found = found ≡ None
 IsVetted (Err o) found = IsUnsound o found
 
 -- Where the nest is blamed, nothing is read and nothing written; else the source gave some bytes, which the nest answers.
-abbrev pub Recoded : Outcome → Change → Change → Option Blame → (List ℕ → Answer) → Type 0
-Recoded o source sink (Some b) answer = Blames o b × Kept source × Kept sink
-Recoded o source sink None answer = Gives source (λ gave. Comes o source sink gave (answer gave))
+abbrev pub Recoded : Outcome → Change → Change → Option Blame → (List ℕ → Answer) → (List ℕ → List Refusal) → Type 0
+Recoded o source sink (Some b) answer log = Blames o b × Kept source × Kept sink
+Recoded o source sink None answer log = Gives source (λ gave. Comes o source sink gave (answer gave) (log gave))
 
--- the grade's line was written whole, or a front of it, or nothing for want of memory
+-- the grade's line was written whole and there is no log, or a front of the line, or nothing for want of memory
 abbrev IsGradePut : Outcome → Change → Grade → Type 0
 IsGradePut outcome.Memory sink g = Kept sink
-IsGradePut o sink g = IsPut o sink (line (grade_name g ∷ []))
+IsGradePut o sink g = IsPut o [] sink (line (grade_name g ∷ []))
 
 -- Where the nest is blamed, nothing is written; else its grade is.
 abbrev pub Graded : Outcome → Change → Option Blame → Grade → Type 0

@@ -5,6 +5,9 @@ pub mod Reading
 pub mod Writing
 pub mod Command
 pub mod Names
+pub mod Paths
+pub mod Log
+pub mod Telling
 pub mod Outcome
 pub mod Profiles
 pub mod Comes

@@ -1,5 +1,6 @@
 -- The status of each outcome, and its line on the notes.
 use Rattle.std.specs.Prelude.{ℕ, List, [], ◌∷◌, codes, decimal, string_bytes}
+use Rattle.sw_tool.specs.Log.{skipped_line}
 use Rattle.sw_tool.specs.Names.{kind_name, reason_name, rule_name}
 use Rattle.sw_tool.specs.Writing.{line}
 use Rattle.sw_tool.specs.declared.outcome.Outcome.{Outcome}
@@ -8,7 +9,7 @@ use Rattle.sw_tool.specs.declared.status.Status.{Status}
 use Rattle.sw_tool.specs.declared.status.Status.TheVariants as status
 
 abbrev pub status_of : Outcome → Status
-status_of outcome.Done = status.Ok
+status_of (outcome.Done log) = status.Ok
 status_of outcome.Usage = status.Usage
 status_of outcome.Syntax = status.Syntax
 status_of (outcome.NotWhole at) = status.NotWhole
@@ -21,9 +22,9 @@ status_of outcome.WriteFault = status.WriteFault
 status_of outcome.Memory = status.Memory
 status_of outcome.TooLong = status.TooLong
 
--- no line where the output is written whole
+-- no line where the output is written whole and nothing was passed over
 abbrev pub line_of : Outcome → List ℕ
-line_of outcome.Done = []
+line_of (outcome.Done log) = skipped_line (string_bytes log)
 line_of outcome.Usage = line (codes "usage: recode P, check P, schema P or demo N" ∷ [])
 line_of outcome.Syntax = line (codes "syntax" ∷ [])
 line_of (outcome.NotWhole at) = line (codes "not whole at " ∷ decimal at ∷ [])

@@ -1,6 +1,7 @@
--- The nests of the profiles, as equations, and what they answer of a JSON text.
+-- The nests of the profiles, as equations, and what they answer of a JSON text and pass over in it.
 use Rattle.std.specs.Prelude.{ℕ, ◌^◌, true, false, List, [], ◌∷◌, Option, Result}
 use Rattle.sw_tree.specs.Meaning.{Meaning}
+use Rattle.sw_tree.specs.declared.fail.Refusal.{Refusal}
 use Rattle.sw_tree.specs.declared.mode.WireKind.TheVariants.{Json}
 use Rattle.sw_elem.specs.Decimal.{decimal_shows, unsigned_parses, signed_parses}
 use Rattle.sw_tree.specs.Mode.{plain}
@@ -17,14 +18,14 @@ use Rattle.sw_elem.specs.Foreign.{any_reads, any_spot, any_writes}
 use Rattle.sw_elem.specs.Equations.{Writes, Reads, Spots, Skips, own_spot, no_skips}
 use Rattle.sw_core.specs.Display.{display_writes, display_reads}
 use Rattle.sw_core.specs.Lists.{list_writes, list_reads, list_spot, list_skips}
-use Rattle.sw_core.specs.Recoding.{answer}
+use Rattle.sw_core.specs.Recoding.{answer, skipped}
 use Rattle.sw_core.specs.declared.recode.RecodeError.{RecodeError}
 use Rattle.sw_pairs.specs.Maps.{map_writes, map_reads, map_spot, map_skips}
-use Rattle.sw_policy.specs.Options.{reader}
-use Rattle.sw_policy.specs.PickFirst.{pick_reads}
-use Rattle.sw_policy.specs.OneOrMany.{one_or_many_writes, one_or_many_reads}
+use Rattle.sw_policy.specs.Options.{Reader, reader}
+use Rattle.sw_policy.specs.PickFirst.{pick_reads, pick_skips}
+use Rattle.sw_policy.specs.OneOrMany.{one_or_many_writes, one_or_many_reads, one_or_many_skips}
 use Rattle.sw_json.specs.Spelled.{spelled}
-use Rattle.sw_json.specs.Text.{json_text}
+use Rattle.sw_json.specs.Text.{image_text}
 use Rattle.sw_tool.specs.declared.command.Profile.{Profile}
 use Rattle.sw_tool.specs.declared.command.Profile.TheVariants.{Ids, Any, Table, Flex, Names, Lists, Keys, Wrap}
 
@@ -34,17 +35,22 @@ Answer = Result (Meaning × List ℕ) RecodeError
 
 -- what a nest answers of a JSON text
 abbrev pub json_answer : Reads → Spots → Writes → List ℕ → Answer
-json_answer reads spot writes bytes = answer reads spot writes Json spelled json_text bytes
+json_answer reads spot writes bytes = answer reads spot writes Json spelled image_text bytes
 
--- what a nest reads, where it refuses, what it writes, and its expression
+-- the refusals that a nest passes over while it reads a JSON text, in order
+abbrev pub json_log : Skips → List ℕ → List Refusal
+json_log skips bytes = skipped skips Json spelled bytes
+
+-- what a nest reads, where it refuses, what it passes over, what it writes, and its expression
 pub record Nest : Type 0 where
   pub reads : Reads
   pub spot : Spots
+  pub skips : Skips
   pub writes : Writes
   pub expr : Form
 
-abbrev nest : Reads → Spots → Writes → Form → Nest
-nest reads spot writes expr = record { reads = reads; spot = spot; writes = writes; expr = expr }
+abbrev nest : Reads → Spots → Skips → Writes → Form → Nest
+nest reads spot skips writes expr = record { reads = reads; spot = spot; skips = skips; writes = writes; expr = expr }
 
 -- a text that spells a number below 2^32
 abbrev id_reads : Reads
@@ -59,12 +65,19 @@ abbrev below : ℕ → Reads
 below limit = number_reads (is_below limit)
 
 -- a number below 2^32, or a text that spells it
-abbrev flex_reads : Reads
-flex_reads = pick_reads (reader (below (2 ^ 32)) no_skips ∷ reader id_reads no_skips ∷ [])
+abbrev flex_options : List Reader
+flex_options = reader (below (2 ^ 32)) no_skips ∷ reader id_reads no_skips ∷ []
 
 -- a number below 2^32 that was set aside
-abbrev aside_reads : Reads
-aside_reads = pick_reads (reader (below (2 ^ 32)) no_skips ∷ reader (below (2 ^ 32)) no_skips ∷ [])
+abbrev aside_options : List Reader
+aside_options = reader (below (2 ^ 32)) no_skips ∷ reader (below (2 ^ 32)) no_skips ∷ []
+
+-- a list of numbers below 2^8
+abbrev octets_reads : Reads
+octets_reads = list_reads (below (2 ^ 8))
+
+abbrev octets_skips : Skips
+octets_skips = list_skips (below (2 ^ 8)) no_skips
 
 -- a map with a text for each key
 abbrev texts_reads : Reads
@@ -80,21 +93,24 @@ abbrev text : Form
 text = leaf text_facts
 
 abbrev pub nest_of : Profile → Nest
-nest_of Ids = nest (list_reads id_reads) (list_spot id_reads own_spot) (list_writes (display_writes decimal_shows)) (vec text)
-nest_of Any = nest any_reads any_spot any_writes (leaf any_facts)
+nest_of Ids = nest (list_reads id_reads) (list_spot id_reads own_spot) (list_skips id_reads no_skips) (list_writes (display_writes decimal_shows)) (vec text)
+nest_of Any = nest any_reads any_spot no_skips any_writes (leaf any_facts)
 nest_of Table =
-    nest (map_reads key_reads (list_reads (below (2 ^ 8)))) (map_spot key_reads own_spot (list_reads (below (2 ^ 8))) (list_spot (below (2 ^ 8)) own_spot))
+    nest (map_reads key_reads octets_reads) (map_spot key_reads own_spot octets_reads (list_spot (below (2 ^ 8)) own_spot)) (map_skips key_reads no_skips octets_reads octets_skips)
     (map_writes (display_writes decimal_shows) (list_writes number_writes)) (map text (vec number))
-nest_of Flex = nest (list_reads flex_reads) (list_spot flex_reads own_spot) (list_writes number_writes) (vec (pick_first number (form text no_forms)))
-nest_of Names = nest (one_or_many_reads text_reads no_skips) own_spot (one_or_many_writes true text_writes) (one_or_many text)
+nest_of Flex =
+    nest (list_reads (pick_reads flex_options)) (list_spot (pick_reads flex_options) own_spot) (list_skips (pick_reads flex_options) (pick_skips flex_options))
+    (list_writes number_writes) (vec (pick_first number (form text no_forms)))
+nest_of Names = nest (one_or_many_reads text_reads no_skips) own_spot (one_or_many_skips text_reads no_skips) (one_or_many_writes true text_writes) (one_or_many text)
 nest_of Lists =
-    nest (one_or_many_reads (list_reads (below (2 ^ 8))) (list_skips (below (2 ^ 8)) no_skips)) own_spot (one_or_many_writes true (list_writes number_writes))
-    (one_or_many (vec number))
+    nest (one_or_many_reads octets_reads octets_skips) own_spot (one_or_many_skips octets_reads octets_skips) (one_or_many_writes true (list_writes number_writes)) (one_or_many (vec number))
 nest_of Keys =
-    nest (map_reads aside_reads truth_reads) (map_spot aside_reads own_spot truth_reads own_spot) (map_writes number_writes truth_writes)
+    nest (map_reads (pick_reads aside_options) truth_reads) (map_spot (pick_reads aside_options) own_spot truth_reads own_spot)
+    (map_skips (pick_reads aside_options) (pick_skips aside_options) truth_reads no_skips) (map_writes number_writes truth_writes)
     (map (pick_first number (form number no_forms)) (leaf truth_facts))
 nest_of Wrap =
-    nest (one_or_many_reads texts_reads texts_skips) own_spot (one_or_many_writes false (map_writes text_writes any_writes)) (one_or_many (map text (leaf any_facts)))
+    nest (one_or_many_reads texts_reads texts_skips) own_spot (one_or_many_skips texts_reads texts_skips) (one_or_many_writes false (map_writes text_writes any_writes))
+    (one_or_many (map text (leaf any_facts)))
 
 -- what is blamed in the nest, where a JSON text is recoded
 unfoldable pub blame_of : Profile → Option Blame
@@ -105,3 +121,6 @@ grade_of p = grade (nest_of p).expr (plain Json)
 
 unfoldable pub answer_of : Profile → List ℕ → Answer
 answer_of p bytes = json_answer (nest_of p).reads (nest_of p).spot (nest_of p).writes bytes
+
+unfoldable pub log_of : Profile → List ℕ → List Refusal
+log_of p bytes = json_log (nest_of p).skips bytes

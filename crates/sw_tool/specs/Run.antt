@@ -4,7 +4,7 @@ use Rattle.sw_tool.specs.Change.{Change, Kept}
 use Rattle.sw_tool.specs.Command.{command_in}
 use Rattle.sw_tool.specs.Comes.{Recoded, Graded}
 use Rattle.sw_tool.specs.Outcome.{status_of, line_of}
-use Rattle.sw_tool.specs.Profiles.{blame_of, grade_of, answer_of}
+use Rattle.sw_tool.specs.Profiles.{blame_of, grade_of, answer_of, log_of}
 use Rattle.sw_tool.specs.Writing.{Notes}
 use Rattle.sw_tool.specs.declared.command.Command.{Command}
 use Rattle.sw_tool.specs.declared.command.Command.TheVariants.{Recode, Check}
@@ -32,11 +32,11 @@ pub record IsUsage (r : Run) : Type 0 where
   pub source : Kept r.source
   pub sink : Kept r.sink
 
--- what the source gives is recoded through the profile's nest
+-- what the source gives is recoded through the profile's nest, and what was passed over is told
 pub record IsRecoding (p : Profile) (r : Run) : Type 0 where
   pub outcome : Outcome
   pub ends : Ends outcome r
-  pub recoded : Recoded outcome r.source r.sink (blame_of p) (answer_of p)
+  pub recoded : Recoded outcome r.source r.sink (blame_of p) (answer_of p) (log_of p)
 
 -- nothing is read, and the grade of the profile's nest is written
 pub record IsGrading (p : Profile) (r : Run) : Type 0 where

@@ -4,11 +4,13 @@
 mod calls;
 mod command;
 mod input;
+mod log;
 mod memory;
 mod names;
 mod nest;
 mod outcome;
 mod output;
+mod path;
 mod profile;
 mod report;
 mod run;
@@ -26,7 +28,7 @@ use std::env::Env;
 use std::io::ErrorKind;
 use std::process::ExitCode;
 
-/// The exit code where the machine doesn't give the words.
+/// The exit code where the machine doesn't give the words, or memory for them is wanting.
 const NO_WORDS: u8 = 15;
 
 /// Runs the words after the program's name over the standard streams, and ends with the status.
@@ -47,8 +49,8 @@ fn main(rt: HostRuntime) -> ExitCode {
     ExitCode::from(status as u8)
 }
 
-/// The words after the program's name, if the machine gives them. Where one isn't UTF-8 there
-/// are no words, which is no command either.
+/// The words after the program's name, if the machine gives them and there is memory for them. Where one
+/// isn't UTF-8 there are no words, which is no command either.
 fn words_after_name(rt: &(impl Env + AllocGlobal)) -> Option<Vec<String>> {
     match env::args(rt) {
         Ok(all) => all.skip(1).collect(rt.alloc()).ok(),

@@ -1,14 +1,16 @@
-//! One nest over JSON: its token, what it makes of a text, and the path of a refusal.
+//! One nest over JSON: its token, and what it makes of a text.
 
-ghost use Rattle.std.specs.Prelude.{IfOk, string_bytes};
 ghost use Rattle.sw_tree.specs.Mode.{plain};
 ghost use Rattle.sw_tree.specs.declared.mode.WireKind.TheVariants.{Json};
 ghost use Rattle.sw_check.specs.Blame.{blame};
-ghost use Rattle.sw_tool.specs.Comes.{IsVetted, Blames, IsConverted, IsPathTo, IsTraced, HasNode};
-ghost use Rattle.sw_tool.specs.Profiles.{json_answer};
+ghost use Rattle.sw_tool.specs.Comes.{IsVetted, Blames, IsConverted, IsTraced};
+ghost use Rattle.sw_tool.specs.Paths.{HasNode};
+ghost use Rattle.sw_tool.specs.Profiles.{json_answer, json_log};
 
+use crate::log::log_text;
 use crate::outcome::Outcome;
-use std::alloc::{AllocError, Global};
+use crate::path::path_text;
+use std::alloc::Global;
 use sw_check::blame::{Blame, CheckFail};
 use sw_core::adapter::Adapter;
 use sw_core::as_::As;
@@ -16,11 +18,9 @@ use sw_core::faithful::faithful;
 use sw_core::recode::RecodeError;
 use sw_core::token::Faithful;
 use sw_json::JsonWire;
-use sw_tree::fail::{Refusal, WireError};
+use sw_tree::fail::Refusal;
 use sw_tree::meant::Meant;
-use sw_tree::path::path_of;
 use sw_tree::skipped::Skipped;
-use sw_tree::wire::Wire;
 
 /// The token of the nest `A` of `T`, or what is blamed in it.
 pub(crate) fn vet<T: Meant, A: Adapter<T>>(
@@ -45,17 +45,21 @@ fn blamed(alloc: Global, blame: Blame) -> Outcome
     }
 }
 
-/// The JSON text of the value of type `T` that the bytes mean to the nest `A`, or why there is none.
+/// The JSON text of the value of type `T` that the bytes mean to the nest `A`, with the text of the log of
+/// what was passed over; or why there is none.
 pub(crate) fn convert<T: Meant, A: Adapter<T>>(
     alloc: Global,
     token: &Faithful<A, T, JsonWire>,
     bytes: &[u8],
-) -> Result<Vec<u8>, Outcome>
-    ensures { IsConverted result (json_answer A.reads A.spot A.writes bytes.now) bytes.now }
+) -> Result<(Vec<u8>, String), Outcome>
+    ensures { IsConverted result (json_answer A.reads A.spot A.writes bytes.now) (json_log A.skips bytes.now) bytes.now }
 {
     let mut log = Skipped::new(alloc);
     match As::<A>::recode::<T, JsonWire>(alloc, token, &mut log, bytes) {
-        Ok((_, text)) => Ok(text),
+        Ok((_, text)) => match log_text(alloc, bytes, log.notes()) {
+            Ok(told) => Ok((text, told)),
+            Err(_) => Err(Outcome::Memory),
+        },
         Err(RecodeError::Syntax) => Err(Outcome::Syntax),
         Err(RecodeError::NotWhole { at }) => Err(Outcome::NotWhole(at)),
         Err(RecodeError::TooDeep { at }) => Err(Outcome::TooDeep(at)),
@@ -73,20 +77,5 @@ fn refused(alloc: Global, bytes: &[u8], refusal: Refusal) -> Outcome
     match path_text(alloc, bytes, refusal.place) {
         Ok(path) => Outcome::Refused(refusal.error.kind(), path),
         Err(_) => Outcome::Memory,
-    }
-}
-
-/// The text of the path of the node of that number, which is found by reading the tree again.
-fn path_text(alloc: Global, bytes: &[u8], number: usize) -> Result<String, AllocError>
-    requires { HasNode bytes.now number }
-    ensures { IfOk result (λ path. IsPathTo bytes.now number (string_bytes path)) }
-{
-    match JsonWire::read_tree(alloc, bytes) {
-        Ok(doc) => match path_of(alloc, doc.view(), number)? {
-            Some(path) => path.print(alloc),
-            None => unreachable!(),
-        },
-        Err(WireError::Memory) => Err(AllocError),
-        Err(_) => unreachable!(),
     }
 }

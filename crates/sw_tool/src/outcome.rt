@@ -5,8 +5,8 @@ use sw_tree::fail::{DeKind, SerError};
 /// What became of a command, with all that its line on the notes says.
 #[derive(Drop)]
 pub enum Outcome {
-    /// The output is written whole.
-    Done,
+    /// The output is written whole; with the text of the log of what was passed over, empty where nothing was.
+    Done(String),
     /// The words are no command.
     Usage,
     /// The input is no text of the wire's grammar.
@@ -40,7 +40,7 @@ impl Outcome {
         ensures { result ≡ status_of self.now }
     {
         match self {
-            Outcome::Done => Status::Ok,
+            Outcome::Done(_) => Status::Ok,
             Outcome::Usage => Status::Usage,
             Outcome::Syntax => Status::Syntax,
             Outcome::NotWhole(_) => Status::NotWhole,

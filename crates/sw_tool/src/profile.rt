@@ -1,13 +1,13 @@
 //! What the commands do, by the nest of each profile.
 
-ghost use Rattle.std.specs.Prelude.{◌≡◌, ◌≢◌, ◌∷◌, [], None};
+ghost use Rattle.std.specs.Prelude.{◌≡◌, ◌≢◌, ◌∷◌, [], None, string_bytes};
 ghost use Rattle.sw_tree.specs.Mode.{plain};
 ghost use Rattle.sw_tree.specs.declared.mode.WireKind.TheVariants.{Json};
 ghost use Rattle.sw_check.specs.Blame.{blame};
 ghost use Rattle.sw_check.specs.Grade.{grade};
 ghost use Rattle.sw_tool.specs.Change.{Change};
 ghost use Rattle.sw_tool.specs.Comes.{Recoded, Graded, IsPut};
-ghost use Rattle.sw_tool.specs.Profiles.{blame_of, grade_of, answer_of, json_answer};
+ghost use Rattle.sw_tool.specs.Profiles.{blame_of, grade_of, answer_of, log_of, json_answer, json_log};
 ghost use Rattle.sw_tool.specs.Writing.{line};
 
 use crate::command::Profile;
@@ -30,7 +30,7 @@ use sw_tree::meant::Meant;
 
 /// Recodes what the source gives through the profile's nest, into the sink. Where the nest isn't sound,
 /// neither is touched.
-#[tactic(auto, unfolding(crate::specs::Profiles::answer_of, crate::specs::Profiles::blame_of))]
+#[tactic(auto, unfolding(crate::specs::Profiles::answer_of, crate::specs::Profiles::log_of, crate::specs::Profiles::blame_of))]
 pub(crate) fn recode<S: Source, K: Sink>(
     alloc: Global,
     profile: Profile,
@@ -39,7 +39,7 @@ pub(crate) fn recode<S: Source, K: Sink>(
 ) -> Outcome
     ensures recoded { let from : Change = record { old = S.left source.old; new = S.left source.new; before = S.faults source.old; after = S.faults source.new } in
         let to : Change = record { old = K.taken sink.old; new = K.taken sink.new; before = K.faults sink.old; after = K.faults sink.new } in
-        Recoded result from to (blame_of profile) (answer_of profile) }
+        Recoded result from to (blame_of profile) (answer_of profile) (log_of profile) }
     ensures untouched { blame_of profile ≢ None → (source.new ≡ source.old) × (sink.new ≡ sink.old) }
 {
     match profile {
@@ -111,7 +111,7 @@ fn recode_by<T: Meant, A: Adapter<T>, S: Source, K: Sink>(
 ) -> Outcome
     ensures recoded { let from : Change = record { old = S.left source.old; new = S.left source.new; before = S.faults source.old; after = S.faults source.new } in
         let to : Change = record { old = K.taken sink.old; new = K.taken sink.new; before = K.faults sink.old; after = K.faults sink.new } in
-        Recoded result from to (blame A.expr (plain Json)) (json_answer A.reads A.spot A.writes) }
+        Recoded result from to (blame A.expr (plain Json)) (json_answer A.reads A.spot A.writes) (json_log A.skips) }
     ensures untouched { blame A.expr (plain Json) ≢ None → (source.new ≡ source.old) × (sink.new ≡ sink.old) }
 {
     let token = match vet::<T, A>(alloc) {
@@ -120,7 +120,7 @@ fn recode_by<T: Meant, A: Adapter<T>, S: Source, K: Sink>(
     };
     match read_all(alloc, source) {
         Ok(bytes) => match convert::<T, A>(alloc, &token, bytes.as_slice()) {
-            Ok(text) => put(sink, text.as_slice()),
+            Ok((text, log)) => put(sink, text.as_slice(), log),
             Err(outcome) => outcome,
         },
         Err(ReadFail::Fault) => Outcome::ReadFault,
@@ -135,18 +135,22 @@ fn check_by<T: Meant, A: Adapter<T>, K: Sink>(alloc: Global, sink: &mut K) -> Ou
         Graded result to (blame A.expr (plain Json)) (grade A.expr (plain Json)) }
 {
     match vet::<T, A>(alloc) {
-        Ok(token) => put(sink, grade_name(token.grade()).as_bytes()),
+        Ok(token) => put(
+            sink,
+            grade_name(token.grade()).as_bytes(),
+            String::new(alloc),
+        ),
         Err(outcome) => outcome,
     }
 }
 
-/// Writes the text and a line feed.
-fn put<K: Sink>(sink: &mut K, text: &[u8]) -> Outcome
+/// Writes the text and a line feed. The outcome of all of that has the text of the log.
+fn put<K: Sink>(sink: &mut K, text: &[u8], log: String) -> Outcome
     ensures { let to : Change = record { old = K.taken sink.old; new = K.taken sink.new; before = K.faults sink.old; after = K.faults sink.new } in
-        IsPut result to (line (text.now ∷ [])) }
+        IsPut result (string_bytes log) to (line (text.now ∷ [])) }
 {
     match write_line(sink, &[text]) {
-        Ok(()) => Outcome::Done,
+        Ok(()) => Outcome::Done(log),
         Err(_) => Outcome::WriteFault,
     }
 }

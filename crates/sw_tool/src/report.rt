@@ -1,4 +1,5 @@
 ghost use Rattle.std.specs.Prelude.{◌≡◌, [], ◌∷◌, map, codes, decimal};
+ghost use Rattle.sw_tool.specs.Log.{skipped_line};
 ghost use Rattle.sw_tool.specs.Outcome.{status_of, line_of};
 ghost use Rattle.sw_tool.specs.Writing.{Notes, line};
 
@@ -28,7 +29,7 @@ fn note_outcome<N: Sink>(notes: &mut N, outcome: &Outcome)
         (line_of outcome.now) }
 {
     match outcome {
-        Outcome::Done => {}
+        Outcome::Done(log) => note_log(notes, log.as_str()),
         Outcome::Usage => note_word(notes, "usage: recode P, check P, schema P or demo N"),
         Outcome::Syntax => note_word(notes, "syntax"),
         Outcome::NotWhole(at) => note_offset(notes, "not whole at ", *at),
@@ -40,6 +41,17 @@ fn note_outcome<N: Sink>(notes: &mut N, outcome: &Outcome)
         Outcome::WriteFault => note_word(notes, "write fault"),
         Outcome::Memory => note_word(notes, "memory"),
         Outcome::TooLong => note_word(notes, "too long"),
+    }
+}
+
+/// Writes the line of a log by its text; none where the text is empty.
+fn note_log<N: Sink>(notes: &mut N, log: &str)
+    ensures { Notes
+        (record { old = N.taken notes.old; new = N.taken notes.new; before = N.faults notes.old; after = N.faults notes.new })
+        (skipped_line log.now) }
+{
+    if !log.is_empty() {
+        note_pair(notes, "skipped ", log);
     }
 }
 

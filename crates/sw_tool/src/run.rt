@@ -19,7 +19,7 @@ use std::alloc::Global;
 /// For `recode P` it checks, in this order, the words and the nest of the profile, reads the source to
 /// its end, recodes what came through the nest, and writes the new text and a line feed to the sink.
 /// Where the nest isn't sound nothing is read. For `check P` it writes the grade of the nest. The
-/// notes gain the outcome's line, none where the output is written whole.
+/// notes gain the outcome's line, none where the output is written whole and nothing was passed over.
 pub fn run<S: Source, K: Sink, N: Sink>(
     alloc: Global,
     words: &[String],

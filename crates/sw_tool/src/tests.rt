@@ -1,5 +1,11 @@
+ghost use Rattle.std.specs.Prelude.{◌≡◌, true, IfOk};
+ghost use Rattle.sw_tool.specs.Paths.{HasNode};
+
 use crate::input::LIMIT;
+use crate::log::log_text;
 use crate::memory::{CountSink, MemSink, MemSource, SureSource};
+use crate::outcome::Outcome;
+use crate::report::report;
 use crate::run::run;
 use crate::source::Source;
 use crate::status::Status;
@@ -16,8 +22,10 @@ use sw_core::same::Same;
 use sw_json::JsonWire;
 use sw_pairs::Map;
 use sw_policy::{OneOrMany, PickFirst};
+use sw_tree::fail::{DeError, Refusal};
 use sw_tree::meant::Meant;
-use sw_tree::mode::{Mode, WireKind};
+use sw_tree::mode::{Kind, Mode, WireKind};
+use sw_tree::path::path_of;
 use sw_tree::skipped::Skipped;
 use sw_tree::wire::Wire;
 
@@ -425,5 +433,39 @@ fn input_of_the_limit_is_too_long(rt: HostRuntime) -> Result<(), AllocError> {
         assert!(rt; to.count() == 0, "{front}");
         assert!(rt; notes.bytes() == front.as_bytes(), "{front}");
     }
+    Ok(())
+}
+
+/// Whether the bytes spell a tree that has a node of that number.
+fn has_node(alloc: Global, bytes: &[u8], number: usize) -> Result<bool, AllocError>
+    ensures { IfOk result (λ has. has ≡ true → HasNode bytes.now number) }
+{
+    match JsonWire::read_tree(alloc, bytes) {
+        Ok(doc) => Ok(path_of(alloc, doc.view(), number)?.is_some()),
+        Err(_) => Ok(false),
+    }
+}
+
+#[test]
+fn what_is_passed_over_is_told_in_order(rt: HostRuntime) -> Result<(), AllocError> {
+    let alloc = rt.alloc();
+    let bytes = b"[1,\"x\",300,2]";
+    assert!(rt; has_node(alloc, bytes, 2)?);
+    assert!(rt; has_node(alloc, bytes, 3)?);
+    let mut log = Skipped::new(alloc);
+    log.push(Refusal {
+        error: DeError::InvalidType(Kind::Text),
+        place: 2,
+    })?;
+    log.push(Refusal {
+        error: DeError::InvalidValue,
+        place: 3,
+    })?;
+    let told = log_text(alloc, bytes, log.notes())?;
+    assert!(rt; told.as_str() == "2: InvalidType at /1 InvalidValue at /2");
+    let mut notes = sink(alloc, 64, &[])?;
+    assert!(rt; report(&mut notes, &Outcome::Done(told)) == Status::Ok);
+    let line = b"skipped 2: InvalidType at /1 InvalidValue at /2\n";
+    assert!(rt; notes.bytes() == line.as_slice());
     Ok(())
 }

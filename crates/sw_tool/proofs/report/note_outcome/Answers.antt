@@ -8,3 +8,6 @@ returns-in-NotWhole g c = rw c.in-NotWhole.is c.note_offset.ensures
 
 pub returns-in-TooDeep : goal.returns-in-TooDeep
 returns-in-TooDeep g c = rw c.in-TooDeep.is c.note_offset-in-TooDeep.ensures
+
+pub returns-in-Usage : goal.returns-in-Usage
+returns-in-Usage g c = rw c.in-Usage.is c.note_word.ensures
