@@ -14,3 +14,4 @@ pub mod Rows
 pub mod Shorts
 pub mod Shown
 pub mod Sizes
+pub mod Turning

@@ -31,6 +31,8 @@ pub mod Utf8
 pub mod Imaged
 pub mod Raw
 pub mod Faults
+pub mod Building
+pub mod NodeBuilder
 pub mod Wires
 pub mod WireLaws
 pub mod Meaning

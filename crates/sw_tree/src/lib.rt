@@ -3,6 +3,7 @@
 
 mod borrowed;
 pub mod builder;
+pub mod builds;
 mod cases;
 mod cell;
 mod containers;
@@ -19,6 +20,7 @@ mod levels;
 pub mod meant;
 pub mod mode;
 pub mod node;
+pub mod node_builder;
 pub mod number;
 mod ordered;
 pub mod path;
@@ -35,6 +37,7 @@ pub mod whole;
 pub mod wire;
 
 pub use builder::DocBuilder;
+pub use builds::Builds;
 pub use content::Content;
 pub use doc::Doc;
 pub use fail::{
@@ -45,6 +48,7 @@ pub use kinds::Kinds;
 pub use meant::{Meant, Named};
 pub use mode::{Kind, Mode, Place, WireKind};
 pub use node::Node;
+pub use node_builder::NodeBuilder;
 pub use number::{key_number, whole_of_spelling, whole_text};
 pub use path::{NodePath, Step, node_at, path_of};
 pub use ranked::{Keyed, Ranked};
