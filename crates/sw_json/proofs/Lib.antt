@@ -3,9 +3,12 @@ pub mod Unescapes
 pub mod ReadQuoted
 pub mod Standing
 pub mod Stands
-pub mod Texts
 pub mod Pushing
 pub mod Children
 pub mod Views
 pub mod Runs
 pub mod Stops
+pub mod Keeping
+pub mod Piecing
+pub mod Finishing
+pub mod Digits

@@ -10,5 +10,8 @@ pub mod PrintedNumbers
 pub mod Printed
 pub mod PrintedImages
 pub mod PrintedUtf8
+pub mod Texts
+pub mod ShortTexts
+pub mod Writing
 pub mod WholeNumbers
 pub mod Keys

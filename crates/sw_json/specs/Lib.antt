@@ -17,5 +17,8 @@ pub mod Lexeme
 pub mod Place
 pub mod Building
 pub mod Pushed
+pub mod Turns
+pub mod Written
+pub mod Kept
 pub mod Images
 pub mod Laws

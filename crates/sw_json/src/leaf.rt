@@ -22,6 +22,17 @@ pub(crate) fn append(out: &mut Vec<u8>, bytes: &[u8]) -> Result<(), PrintError>
     Ok(())
 }
 
+/// Appends this byte. The one refusal is `Memory`.
+#[inline]
+pub(crate) fn append_byte(out: &mut Vec<u8>, byte: u8) -> Result<(), PrintError>
+    ensures { IsPushed result out.old.items out.new.items (Some (byte ∷ [])) }
+{
+    if out.push(byte).is_err() {
+        return Err(PrintError::Memory);
+    }
+    Ok(())
+}
+
 pub(crate) fn push_bool(out: &mut Vec<u8>, value: bool) -> Result<(), PrintError>
     ensures { IsPushed result out.old.items out.new.items (json_text (truth value)) }
 {
@@ -43,14 +54,17 @@ pub(crate) fn push_bool_key(out: &mut Vec<u8>, value: bool) -> Result<(), PrintE
     }
 }
 
-/// Appends the text that a number is as a key.
+/// Appends the text that a number is as a key: its digits need no escape.
+#[inline(always)]
+#[tactic(auto, using(crate::proofs::Digits::digits_pushed))]
 pub(crate) fn push_number_key(out: &mut Vec<u8>, number: Whole) -> Result<(), PrintError>
     ensures { IsPushed result out.old.items out.new.items (key_text (int number)) }
 {
     let mut digits = Buffer::new();
-    push_text(out, number.format(&mut digits))
+    push_plain(out, number.format(&mut digits).as_bytes())
 }
 
+#[inline(always)]
 pub(crate) fn push_number(out: &mut Vec<u8>, number: Whole) -> Result<(), PrintError>
     ensures { IsPushed result out.old.items out.new.items (json_text (int number)) }
 {
@@ -105,12 +119,13 @@ pub(crate) fn push_text(out: &mut Vec<u8>, content: &str) -> Result<(), PrintErr
 }
 
 /// Appends the bytes between quotes.
+#[inline]
 fn push_plain(out: &mut Vec<u8>, bytes: &[u8]) -> Result<(), PrintError>
     ensures { IsPushed result out.old.items out.new.items (Some (34 ∷ bytes.now ++ 34 ∷ [])) }
 {
-    append(out, b"\"")?;
+    append_byte(out, b'"')?;
     append(out, bytes)?;
-    append(out, b"\"")
+    append_byte(out, b'"')
 }
 
 /// Appends the bytes of a text, those that need no escape in runs.

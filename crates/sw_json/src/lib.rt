@@ -4,7 +4,9 @@
 mod building;
 mod class;
 mod leaf;
+mod level;
 mod lexer;
+mod piece;
 mod place;
 mod plain;
 mod print;
@@ -13,9 +15,12 @@ mod quoted;
 mod reader;
 mod shown;
 pub mod spelling;
+mod turn;
 pub mod wire;
+pub mod writer;
 
 pub use wire::JsonWire;
+pub use writer::TextWriter;
 
 #[cfg(test)]
 mod tests;

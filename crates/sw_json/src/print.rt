@@ -26,8 +26,9 @@ pub fn print(alloc: Global, node: &Node) -> Result<Vec<u8>, PrintError>
     Ok(out)
 }
 
+/// The same, appended.
 #[cycle(print)]
-fn push_node(out: &mut Vec<u8>, node: &Node) -> Result<(), PrintError>
+pub(crate) fn push_node(out: &mut Vec<u8>, node: &Node) -> Result<(), PrintError>
     ensures { IsPushed result out.old.items out.new.items (json_text node.now) }
 {
     match node.content() {
@@ -103,7 +104,7 @@ fn push_entry(out: &mut Vec<u8>, key: &Node, value: &Node) -> Result<(), PrintEr
     push_node(out, value)
 }
 
-fn push_key(out: &mut Vec<u8>, key: &Node) -> Result<(), PrintError>
+pub(crate) fn push_key(out: &mut Vec<u8>, key: &Node) -> Result<(), PrintError>
     ensures { IsPushed result out.old.items out.new.items (key_text key.now) }
 {
     if let Some(text) = key.as_text() {

@@ -1,5 +1,6 @@
+use crate::writer::TextWriter;
 use crate::{print, reader};
-use std::alloc::Global;
+use std::alloc::{AllocError, Global};
 use sw_tree::doc::Doc;
 use sw_tree::fail::{PrintError, WireError};
 use sw_tree::mode::WireKind;
@@ -16,6 +17,7 @@ impl Wire for JsonWire {
     ghost use Rattle.sw_tree.specs.declared.mode.WireKind.TheVariants.{Json};
     ghost use Rattle.sw_json.specs.Spelled.{spells, spelled, HasEscaped};
     ghost use Rattle.sw_json.specs.Text.{image_text};
+    ghost use Rattle.sw_json.specs.Written.{fresh};
     ghost use Rattle.sw_json.specs.Laws.Completion.{grammar};
     ghost use Rattle.sw_json.specs.Laws.PrintedImages.{prints_images};
 
@@ -28,6 +30,10 @@ impl Wire for JsonWire {
     ghost spelled = { spelled };
 
     ghost text = { image_text };
+
+    type Writer = TextWriter;
+
+    ghost fresh = { fresh };
 
     ghost grammar = { grammar };
 
@@ -60,5 +66,17 @@ impl Wire for JsonWire {
         ensures { IsPrinted result (printed Json image_text node.now) }
     {
         print::print(alloc, node)
+    }
+
+    /// A writer of compact JSON text with nothing put in, and room for so many bytes.
+    fn writer(alloc: Global, bytes: usize) -> Result<TextWriter, AllocError> {
+        TextWriter::new(alloc, bytes)
+    }
+
+    /// The text of the tree that was put in, as `print` answers it: `Key` exactly where some key
+    /// is null, a byte string, a list or a map.
+    #[tactic(auto, using(crate::proofs::Finishing::finishing))]
+    fn finish(_alloc: Global, writer: TextWriter) -> Result<Vec<u8>, PrintError> {
+        writer.finish()
     }
 }

@@ -1,15 +1,11 @@
 -- The image of a proper tree is one that its text spells, and is no deeper.
-use Rattle.std.proofs.Common.{◌≡◌, ℕ, suc, ◌≤◌, ◌<◌, ◌^◌, max, ℤ, pos, negsuc, List, [], ◌∷◌, Bool, true, false, Option, Some, None, option_map, refl, ap, sym, subst, ◌∙◌, arith, IsUtf8, codes, decimal, Ok}
-use Rattle.std.proofs.lemmas.Fmt.{IsAscii-decimal_wide}
-use Rattle.std.proofs.lemmas.Str.{IsUtf8-from_ascii, IsUtf8-append}
-use Rattle.std.specs.Fmt.{signed_decimal}
+use Rattle.std.proofs.Common.{◌≡◌, ℕ, suc, ◌≤◌, ◌<◌, max, List, [], ◌∷◌, Option, Some, None, option_map, refl, ap, sym, subst, ◌∙◌, arith, Ok}
 use Rattle.sw_tree.specs.Utf8.{signed_decimal-utf8, bool_text-utf8}
 use Rattle.sw_tree.specs.Steps.{Each}
 use Rattle.sw_tree.specs.Tree.{Tree, null, truth, int, text, bytes, list, map, Trees, no_trees, tree, Entries, no_entries, entry, depth, trees_depth, entries_depth}
-use Rattle.sw_tree.specs.Image.{bool_text, numbers, key_image, next_tree, next_entry, value_image, trees_image, entries_image, image}
+use Rattle.sw_tree.specs.Image.{numbers, key_image, next_tree, next_entry, value_image, trees_image, entries_image, image}
 use Rattle.sw_tree.specs.declared.mode.WireKind.TheVariants.{Json}
 use Rattle.sw_tree.specs.declared.mode.Place.TheVariants.{Value}
-use Rattle.sw_tree.specs.NumberLaws.{IsInRange}
 use Rattle.sw_tree.specs.Proper.{IsProper, AreProper, AreProperEntries}
 use Rattle.sw_tree.specs.Wires.{PrintsImages}
 use Rattle.sw_json.specs.Images.{IsKey, IsImage, AreImages, AreImageEntries}

@@ -1,5 +1,5 @@
 -- What a tree is printed as is UTF-8.
-use Rattle.std.proofs.Common.{◌≡◌, ℕ, zero, suc, ◌<◌, ◌≤◌, Bool, true, false, cond, ◌&&◌, nat_lt, List, [], ◌∷◌, ◌++◌, length, get_or, IsUtf8, inl, inr, refl, sym, ap, ap₂, ◌∙◌, subst, arith, append_assoc, append-nil, ltb-true, leb, eqb, Some, codes}
+use Rattle.std.proofs.Common.{◌≡◌, ℕ, zero, suc, ◌<◌, ◌≤◌, Bool, true, false, ◌&&◌, nat_lt, List, [], ◌∷◌, ◌++◌, length, get_or, IsUtf8, inl, inr, refl, sym, ap, ap₂, subst, arith, append-nil, ltb-true, Some, codes}
 use Rattle.std.proofs.lemmas.Bool.{and_parts, cases_lt, cases_eq}
 use Rattle.std.proofs.lemmas.Bool.Decides.{nat_tests}
 use Rattle.std.proofs.lemmas.Str.{IsUtf8-append, IsUtf8-nil, IsUtf8-encode, encode_ascii, inside_one}
@@ -12,7 +12,6 @@ use Rattle.sw_tree.specs.declared.mode.WireKind.TheVariants.{Json}
 use Rattle.sw_tree.specs.declared.mode.Place.TheVariants.{Value}
 use Rattle.sw_json.specs.Text.{escape_of, escaped, text_of, items_text, more_items, entries_text, more_entries}
 use Rattle.sw_json.specs.Images.{IsKey, IsImage, AreImages, AreImageEntries}
-use Rattle.sw_json.specs.Laws.PrintedTexts.{escaped-append}
 use Rattle.sw_tree.specs.Utf8.{signed_decimal-utf8}
 use Rattle.sw_json.specs.Laws.PrintedImages.{image_is}
 

@@ -1,10 +1,10 @@
-use Rattle.std.proofs.Common.{Some, ap, sym, subst, ◌∙◌, arith}
+use Rattle.std.proofs.Common.{Some, ap, sym, ◌∙◌, arith}
 use Rattle.std.specs.Prelude.{codes}
 use Rattle.sw_tree.specs.Tree.{list, map, trees, entries, depth}
 use Rattle.sw_json.specs.Text.{json_text}
-use Rattle.sw_json.specs.Pushed.{IsPushed, entry_text, more_items_text, more_entries_text}
+use Rattle.sw_json.specs.Pushed.{entry_text, more_items_text, more_entries_text}
 use Rattle.sw_json.proofs.Pushing.{onto-three, pushed-moved, turn}
-use Rattle.sw_json.proofs.Texts.{list_text, map_text, more_text, behind_text}
+use Rattle.sw_json.specs.Laws.Texts.{list_text, map_text, more_text, behind_text}
 use Rattle.sw_tree.specs.Content.{content_tree}
 use Rattle.sw_json.proofs.Children.{item_depth, entry_depth}
 use Rattle.sw_json.proofs.print.+print.Goals as goal

@@ -6,7 +6,7 @@ use Rattle.sw_tree.specs.View.{tree_of}
 use Rattle.sw_json.specs.Text.{json_text}
 use Rattle.sw_json.specs.Pushed.{entry_text, more_items_text, more_entries_text}
 use Rattle.sw_json.proofs.Pushing.{onto-three, pushed-moved}
-use Rattle.sw_json.proofs.Texts.{list_text, map_text, more_text, behind_text}
+use Rattle.sw_json.specs.Laws.Texts.{list_text, map_text, more_text, behind_text}
 use Rattle.sw_json.proofs.print_view.+print_view.Goals as goal
 
 pub push_items-returns-in_ok-push_tree-in-Some : goal.push_items-returns-in_ok-push_tree-in-Some
