@@ -9,6 +9,7 @@ use crate::foreign::{foreign_in, is_any};
 use crate::serialize::{Deserialize, Serialize};
 use std::alloc::Global;
 use sw_check::facts::Facts;
+use sw_tree::builds::Builds;
 use sw_tree::fail::{DeFail, SerFail};
 use sw_tree::meant::{Meant, Named};
 use sw_tree::mode::Mode;
@@ -71,11 +72,8 @@ impl Serialize for Any {
 
     ghost writes = { any_writes };
 
-    fn serialize(&self, alloc: Global, _mode: Mode) -> Result<Node, SerFail> {
-        match self.node.copy(alloc) {
-            Ok(copy) => Ok(copy),
-            Err(_) => Err(SerFail::Memory),
-        }
+    fn write<B: Builds>(&self, _alloc: Global, out: &mut B, _mode: Mode) -> Result<(), SerFail> {
+        out.node(&self.node)
     }
 }
 

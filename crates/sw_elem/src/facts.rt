@@ -69,10 +69,7 @@ pub fn with(kinds: Kinds, kind: Kind) -> Kinds
 fn all_but_bytes() -> Kinds
     ensures { result ≡ facts.all_but_bytes }
 {
-    let leaves = with(
-        with(either(Kind::Null, Kind::Bool), Kind::Int),
-        Kind::Text,
-    );
+    let leaves = with(with(either(Kind::Null, Kind::Bool), Kind::Int), Kind::Text);
     with(with(leaves, Kind::List), Kind::Map)
 }
 

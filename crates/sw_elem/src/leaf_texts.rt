@@ -2,10 +2,12 @@
 
 use crate::classes;
 use crate::text::{ParseFail, TextForm};
-use crate::texts::{char_in, char_text, copied};
+use crate::texts::{char_in, char_text, copied, put_char};
 use crate::truths::truth_named;
 use std::alloc::{AllocError, Global};
 use sw_check::class::TextClass;
+use sw_tree::builds::Builds;
+use sw_tree::fail::SerFail;
 
 /// `true` or `false`.
 impl TextForm for bool {
@@ -29,6 +31,14 @@ impl TextForm for bool {
             String::from_str(alloc, "true")
         } else {
             String::from_str(alloc, "false")
+        }
+    }
+
+    fn show_to<B: Builds>(&self, _alloc: Global, out: &mut B) -> Result<(), SerFail> {
+        if *self {
+            out.text("true")
+        } else {
+            out.text("false")
         }
     }
 
@@ -67,6 +77,10 @@ impl TextForm for char {
         char_text(alloc, *self)
     }
 
+    fn show_to<B: Builds>(&self, _alloc: Global, out: &mut B) -> Result<(), SerFail> {
+        put_char(out, *self)
+    }
+
     fn parse(_alloc: Global, text: &str) -> Result<char, ParseFail> {
         match char_in(text) {
             Some(value) => Ok(value),
@@ -100,6 +114,10 @@ impl TextForm for String {
 
     fn show(&self, alloc: Global) -> Result<String, AllocError> {
         String::from_str(alloc, self.as_str())
+    }
+
+    fn show_to<B: Builds>(&self, _alloc: Global, out: &mut B) -> Result<(), SerFail> {
+        out.text(self.as_str())
     }
 
     fn parse(alloc: Global, text: &str) -> Result<String, ParseFail> {

@@ -4,13 +4,13 @@ use crate::element::Element;
 use crate::facts;
 use crate::refuse::refused_at;
 use crate::serialize::{Deserialize, Serialize};
-use crate::texts::{char_in, char_text, copied};
+use crate::texts::{char_in, copied, put_char};
 use crate::truths::bool_at;
 use std::alloc::Global;
 use sw_check::facts::Facts;
+use sw_tree::builds::Builds;
 use sw_tree::fail::{DeError, DeFail, SerFail};
 use sw_tree::mode::{Kind, Mode};
-use sw_tree::node::Node;
 use sw_tree::skipped::Skipped;
 use sw_tree::view::View;
 
@@ -19,8 +19,8 @@ impl Serialize for bool {
 
     ghost writes = { truth_writes };
 
-    fn serialize(&self, _alloc: Global, _mode: Mode) -> Result<Node, SerFail> {
-        Ok(Node::bool(*self))
+    fn write<B: Builds>(&self, _alloc: Global, out: &mut B, _mode: Mode) -> Result<(), SerFail> {
+        out.bool(*self)
     }
 }
 
@@ -79,11 +79,8 @@ impl Serialize for char {
 
     ghost writes = { text_writes };
 
-    fn serialize(&self, alloc: Global, _mode: Mode) -> Result<Node, SerFail> {
-        match char_text(alloc, *self) {
-            Ok(text) => Ok(Node::text(text)),
-            Err(_) => Err(SerFail::Memory),
-        }
+    fn write<B: Builds>(&self, _alloc: Global, out: &mut B, _mode: Mode) -> Result<(), SerFail> {
+        put_char(out, *self)
     }
 }
 
@@ -144,11 +141,8 @@ impl Serialize for String {
 
     ghost writes = { text_writes };
 
-    fn serialize(&self, alloc: Global, _mode: Mode) -> Result<Node, SerFail> {
-        match String::from_str(alloc, self.as_str()) {
-            Ok(text) => Ok(Node::text(text)),
-            Err(_) => Err(SerFail::Memory),
-        }
+    fn write<B: Builds>(&self, _alloc: Global, out: &mut B, _mode: Mode) -> Result<(), SerFail> {
+        out.text(self.as_str())
     }
 }
 
@@ -208,8 +202,8 @@ impl Serialize for () {
 
     ghost writes = { nothing_writes };
 
-    fn serialize(&self, _alloc: Global, _mode: Mode) -> Result<Node, SerFail> {
-        Ok(Node::null())
+    fn write<B: Builds>(&self, _alloc: Global, out: &mut B, _mode: Mode) -> Result<(), SerFail> {
+        out.null()
     }
 }
 

@@ -19,7 +19,6 @@ use crate::key_place;
 use crate::refuse::refusal_at;
 use sw_tree::fail::{DeError, Refusal};
 use sw_tree::mode::Mode;
-use sw_tree::node::Node;
 use sw_tree::number;
 use sw_tree::view::View;
 use sw_tree::whole::Whole;
@@ -96,18 +95,4 @@ pub(crate) fn signed_at(view: View<'_>, mode: Mode, most: u128) -> Result<i128, 
         }
         None => Err(refusal_at(view, DeError::InvalidValue)),
     }
-}
-
-/// The tree of a number that isn't negative.
-pub(crate) fn unsigned_node(value: u128) -> Node
-    ensures { result ≡ int (pos value) }
-{
-    Node::int(Whole::from_u128(value))
-}
-
-/// The tree of that number.
-pub(crate) fn signed_node(value: i128) -> Node
-    ensures { result ≡ int value }
-{
-    Node::int(Whole::from_i128(value))
 }

@@ -1,8 +1,10 @@
 use std::alloc::Global;
+use sw_tree::builds::Builds;
 use sw_tree::fail::{DeFail, SerFail};
 use sw_tree::meant::Meant;
 use sw_tree::mode::Mode;
 use sw_tree::node::Node;
+use sw_tree::node_builder::NodeBuilder;
 use sw_tree::skipped::Skipped;
 use sw_tree::view::View;
 
@@ -12,12 +14,26 @@ use sw_tree::view::View;
 pub trait Serialize: Meant {
     ghost use Rattle.sw_elem.specs.Equations.{Writes};
     ghost use Rattle.sw_elem.specs.Answers.{IsWritten};
+    ghost use Rattle.sw_tree.specs.Building.{IsPut};
 
     ghost writes: { Writes };
 
+    /// Puts the value's tree in that mode into what is built. `Unwritable` exactly where the value has none, with
+    /// its reason; nothing is said then of what is built.
+    fn write<B: Builds>(&self, alloc: Global, out: &mut B, mode: Mode) -> Result<(), SerFail>
+        ensures { IsPut B.put result (writes mode (Self.meaning self.now)) out.old out.new };
+
     /// The value's tree in that mode. `Unwritable` exactly where the value has none, with its reason.
     fn serialize(&self, alloc: Global, mode: Mode) -> Result<Node, SerFail>
-        ensures { IsWritten result (writes mode (Self.meaning self.now)) };
+        ensures { IsWritten result (writes mode (Self.meaning self.now)) }
+    {
+        let mut builder = NodeBuilder::new(alloc);
+        self.write(alloc, &mut builder, mode)?;
+        match builder.finish() {
+            Some(node) => Ok(node),
+            None => Err(SerFail::Memory),
+        }
+    }
 }
 
 /// A type that reads itself, in place of serde's `Deserialize`.

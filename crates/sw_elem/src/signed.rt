@@ -2,23 +2,24 @@
 
 use crate::element::Element;
 use crate::facts;
-use crate::numbers::{signed_at, signed_node};
+use crate::numbers::signed_at;
 use crate::serialize::{Deserialize, Serialize};
 use std::alloc::Global;
 use sw_check::facts::Facts;
+use sw_tree::builds::Builds;
 use sw_tree::fail::{DeFail, SerFail};
 use sw_tree::mode::Mode;
-use sw_tree::node::Node;
 use sw_tree::skipped::Skipped;
 use sw_tree::view::View;
+use sw_tree::whole::Whole;
 
 impl Serialize for i8 {
     ghost use Rattle.sw_elem.specs.Numbers.{number_writes};
 
     ghost writes = { number_writes };
 
-    fn serialize(&self, _alloc: Global, _mode: Mode) -> Result<Node, SerFail> {
-        Ok(signed_node(i128::from(*self)))
+    fn write<B: Builds>(&self, _alloc: Global, out: &mut B, _mode: Mode) -> Result<(), SerFail> {
+        out.int(Whole::from_i128(i128::from(*self)))
     }
 }
 
@@ -76,8 +77,8 @@ impl Serialize for i16 {
 
     ghost writes = { number_writes };
 
-    fn serialize(&self, _alloc: Global, _mode: Mode) -> Result<Node, SerFail> {
-        Ok(signed_node(i128::from(*self)))
+    fn write<B: Builds>(&self, _alloc: Global, out: &mut B, _mode: Mode) -> Result<(), SerFail> {
+        out.int(Whole::from_i128(i128::from(*self)))
     }
 }
 
@@ -135,8 +136,8 @@ impl Serialize for i32 {
 
     ghost writes = { number_writes };
 
-    fn serialize(&self, _alloc: Global, _mode: Mode) -> Result<Node, SerFail> {
-        Ok(signed_node(i128::from(*self)))
+    fn write<B: Builds>(&self, _alloc: Global, out: &mut B, _mode: Mode) -> Result<(), SerFail> {
+        out.int(Whole::from_i128(i128::from(*self)))
     }
 }
 
@@ -194,8 +195,8 @@ impl Serialize for i64 {
 
     ghost writes = { number_writes };
 
-    fn serialize(&self, _alloc: Global, _mode: Mode) -> Result<Node, SerFail> {
-        Ok(signed_node(i128::from(*self)))
+    fn write<B: Builds>(&self, _alloc: Global, out: &mut B, _mode: Mode) -> Result<(), SerFail> {
+        out.int(Whole::from_i128(i128::from(*self)))
     }
 }
 
@@ -253,8 +254,8 @@ impl Serialize for i128 {
 
     ghost writes = { number_writes };
 
-    fn serialize(&self, _alloc: Global, _mode: Mode) -> Result<Node, SerFail> {
-        Ok(signed_node(*self))
+    fn write<B: Builds>(&self, _alloc: Global, out: &mut B, _mode: Mode) -> Result<(), SerFail> {
+        out.int(Whole::from_i128(*self))
     }
 }
 
@@ -312,8 +313,8 @@ impl Serialize for isize {
 
     ghost writes = { number_writes };
 
-    fn serialize(&self, _alloc: Global, _mode: Mode) -> Result<Node, SerFail> {
-        Ok(signed_node(*self as i128))
+    fn write<B: Builds>(&self, _alloc: Global, out: &mut B, _mode: Mode) -> Result<(), SerFail> {
+        out.int(Whole::from_i128(*self as i128))
     }
 }
 

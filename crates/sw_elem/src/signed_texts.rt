@@ -8,6 +8,8 @@ use crate::digits::signed_in;
 use crate::text::{ParseFail, TextForm};
 use std::alloc::{AllocError, Global};
 use sw_check::class::TextClass;
+use sw_tree::builds::Builds;
+use sw_tree::fail::SerFail;
 use sw_tree::number::whole_text;
 use sw_tree::whole::Whole;
 
@@ -30,6 +32,10 @@ impl TextForm for i8 {
 
     fn show(&self, alloc: Global) -> Result<String, AllocError> {
         whole_text(alloc, Whole::from_i128(i128::from(*self)))
+    }
+
+    fn show_to<B: Builds>(&self, _alloc: Global, out: &mut B) -> Result<(), SerFail> {
+        out.int_text(Whole::from_i128(i128::from(*self)))
     }
 
     fn parse(_alloc: Global, text: &str) -> Result<i8, ParseFail> {
@@ -67,6 +73,10 @@ impl TextForm for i16 {
         whole_text(alloc, Whole::from_i128(i128::from(*self)))
     }
 
+    fn show_to<B: Builds>(&self, _alloc: Global, out: &mut B) -> Result<(), SerFail> {
+        out.int_text(Whole::from_i128(i128::from(*self)))
+    }
+
     fn parse(_alloc: Global, text: &str) -> Result<i16, ParseFail> {
         match signed_in(text, i16::MAX as u128) {
             Some(value) => Ok(value as i16),
@@ -100,6 +110,10 @@ impl TextForm for i32 {
 
     fn show(&self, alloc: Global) -> Result<String, AllocError> {
         whole_text(alloc, Whole::from_i128(i128::from(*self)))
+    }
+
+    fn show_to<B: Builds>(&self, _alloc: Global, out: &mut B) -> Result<(), SerFail> {
+        out.int_text(Whole::from_i128(i128::from(*self)))
     }
 
     fn parse(_alloc: Global, text: &str) -> Result<i32, ParseFail> {
@@ -137,6 +151,10 @@ impl TextForm for i64 {
         whole_text(alloc, Whole::from_i128(i128::from(*self)))
     }
 
+    fn show_to<B: Builds>(&self, _alloc: Global, out: &mut B) -> Result<(), SerFail> {
+        out.int_text(Whole::from_i128(i128::from(*self)))
+    }
+
     fn parse(_alloc: Global, text: &str) -> Result<i64, ParseFail> {
         match signed_in(text, i64::MAX as u128) {
             Some(value) => Ok(value as i64),
@@ -172,6 +190,10 @@ impl TextForm for i128 {
         whole_text(alloc, Whole::from_i128(*self))
     }
 
+    fn show_to<B: Builds>(&self, _alloc: Global, out: &mut B) -> Result<(), SerFail> {
+        out.int_text(Whole::from_i128(*self))
+    }
+
     fn parse(_alloc: Global, text: &str) -> Result<i128, ParseFail> {
         match signed_in(text, i128::MAX as u128) {
             Some(value) => Ok(value),
@@ -205,6 +227,10 @@ impl TextForm for isize {
 
     fn show(&self, alloc: Global) -> Result<String, AllocError> {
         whole_text(alloc, Whole::from_i128(*self as i128))
+    }
+
+    fn show_to<B: Builds>(&self, _alloc: Global, out: &mut B) -> Result<(), SerFail> {
+        out.int_text(Whole::from_i128(*self as i128))
     }
 
     fn parse(_alloc: Global, text: &str) -> Result<isize, ParseFail> {

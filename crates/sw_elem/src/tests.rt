@@ -454,7 +454,9 @@ fn number_alone(alloc: Global, number: Whole) -> Result<Doc<'static>, AllocError
 fn every_whole_number_is_read(rt: HostRuntime) -> Result<(), AllocError> {
     let most = Whole::from_u128(u128::MAX);
     let doc = number_alone(rt.alloc(), most)?;
-    assert!(rt; matches!(whole_at(doc.view(), Mode::plain(WireKind::Json)), Ok(number) if number == most));
+    assert!(rt;
+        matches!(whole_at(doc.view(), Mode::plain(WireKind::Json)), Ok(number) if number == most)
+    );
     Ok(())
 }
 
@@ -467,7 +469,12 @@ fn facts_are_made_of_kinds(rt: HostRuntime) {
     assert!(rt; keyed(Kind::Int, Grade::Exact) == known_by_keys(Kind::Int));
     let text = known_by_kinds(Kinds::one(Kind::Text), true);
     assert!(rt; everywhere(only(Kind::Text), stands(true, true)) == text);
-    let told_apart = told(only(Kind::Int), number_or_text, stands(true, true), Grade::Rounded);
+    let told_apart = told(
+        only(Kind::Int),
+        number_or_text,
+        stands(true, true),
+        Grade::Rounded,
+    );
     assert!(rt; told_apart.written == Kinds::one(Kind::Int));
     assert!(rt; told_apart.read_key == number_or_text);
     assert!(rt; told_apart.grade == Grade::Rounded);

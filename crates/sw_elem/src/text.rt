@@ -2,6 +2,8 @@ ghost use Rattle.std.specs.Prelude.{◌≡◌, IfOk, true, string_bytes};
 
 use std::alloc::{AllocError, Global};
 use sw_check::class::TextClass;
+use sw_tree::builds::Builds;
+use sw_tree::fail::SerFail;
 use sw_tree::meant::Meant;
 
 /// Why a text isn't parsed.
@@ -17,7 +19,9 @@ pub enum ParseFail {
 /// It names the text of each meaning, the meaning of each text, if it has one, and a class. What is
 /// shown parses as the value that was shown, and is of the class.
 pub trait TextForm: Meant {
-    ghost use Rattle.std.specs.Prelude.{List, ℕ, Bool, Option};
+    ghost use Rattle.std.specs.Prelude.{List, ℕ, Bool, Option, Ok};
+    ghost use Rattle.sw_tree.specs.Building.{IsBuilt};
+    ghost use Rattle.sw_tree.specs.Tree as node;
     ghost use Rattle.sw_tree.specs.Meaning.{Meaning};
     ghost use Rattle.sw_check.specs.declared.class.TextClass.{TextClass};
     ghost use Rattle.sw_elem.specs.Text.{IsParsed, ParsesFreely, LawfulText};
@@ -36,6 +40,16 @@ pub trait TextForm: Meant {
     /// The value's text. The one error is want of memory.
     fn show(&self, alloc: Global) -> Result<String, AllocError>
         ensures { IfOk result (λ s. string_bytes s ≡ shows (Self.meaning self.now)) };
+
+    /// Puts the value's text into what is built. The one error is want of memory.
+    fn show_to<B: Builds>(&self, alloc: Global, out: &mut B) -> Result<(), SerFail>
+        ensures { IsBuilt result (Ok (B.put (node.text (shows (Self.meaning self.now))) out.old)) out.new }
+    {
+        match self.show(alloc) {
+            Ok(text) => out.text(text.as_str()),
+            Err(_) => Err(SerFail::Memory),
+        }
+    }
 
     /// The value of the text. `Refused` exactly where the text has none; `Memory` only where `FREE` is false.
     fn parse(alloc: Global, text: &str) -> Result<Self, ParseFail>

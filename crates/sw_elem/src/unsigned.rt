@@ -6,23 +6,24 @@
 
 use crate::element::Element;
 use crate::facts;
-use crate::numbers::{unsigned_at, unsigned_node};
+use crate::numbers::unsigned_at;
 use crate::serialize::{Deserialize, Serialize};
 use std::alloc::Global;
 use sw_check::facts::Facts;
+use sw_tree::builds::Builds;
 use sw_tree::fail::{DeFail, SerFail};
 use sw_tree::mode::Mode;
-use sw_tree::node::Node;
 use sw_tree::skipped::Skipped;
 use sw_tree::view::View;
+use sw_tree::whole::Whole;
 
 impl Serialize for u8 {
     ghost use Rattle.sw_elem.specs.Numbers.{number_writes};
 
     ghost writes = { number_writes };
 
-    fn serialize(&self, _alloc: Global, _mode: Mode) -> Result<Node, SerFail> {
-        Ok(unsigned_node(u128::from(*self)))
+    fn write<B: Builds>(&self, _alloc: Global, out: &mut B, _mode: Mode) -> Result<(), SerFail> {
+        out.int(Whole::from_u128(u128::from(*self)))
     }
 }
 
@@ -79,8 +80,8 @@ impl Serialize for u16 {
 
     ghost writes = { number_writes };
 
-    fn serialize(&self, _alloc: Global, _mode: Mode) -> Result<Node, SerFail> {
-        Ok(unsigned_node(u128::from(*self)))
+    fn write<B: Builds>(&self, _alloc: Global, out: &mut B, _mode: Mode) -> Result<(), SerFail> {
+        out.int(Whole::from_u128(u128::from(*self)))
     }
 }
 
@@ -137,8 +138,8 @@ impl Serialize for u32 {
 
     ghost writes = { number_writes };
 
-    fn serialize(&self, _alloc: Global, _mode: Mode) -> Result<Node, SerFail> {
-        Ok(unsigned_node(u128::from(*self)))
+    fn write<B: Builds>(&self, _alloc: Global, out: &mut B, _mode: Mode) -> Result<(), SerFail> {
+        out.int(Whole::from_u128(u128::from(*self)))
     }
 }
 
@@ -195,8 +196,8 @@ impl Serialize for u64 {
 
     ghost writes = { number_writes };
 
-    fn serialize(&self, _alloc: Global, _mode: Mode) -> Result<Node, SerFail> {
-        Ok(unsigned_node(u128::from(*self)))
+    fn write<B: Builds>(&self, _alloc: Global, out: &mut B, _mode: Mode) -> Result<(), SerFail> {
+        out.int(Whole::from_u128(u128::from(*self)))
     }
 }
 
@@ -253,8 +254,8 @@ impl Serialize for u128 {
 
     ghost writes = { number_writes };
 
-    fn serialize(&self, _alloc: Global, _mode: Mode) -> Result<Node, SerFail> {
-        Ok(unsigned_node(*self))
+    fn write<B: Builds>(&self, _alloc: Global, out: &mut B, _mode: Mode) -> Result<(), SerFail> {
+        out.int(Whole::from_u128(*self))
     }
 }
 
@@ -311,8 +312,8 @@ impl Serialize for usize {
 
     ghost writes = { number_writes };
 
-    fn serialize(&self, _alloc: Global, _mode: Mode) -> Result<Node, SerFail> {
-        Ok(unsigned_node(*self as u128))
+    fn write<B: Builds>(&self, _alloc: Global, out: &mut B, _mode: Mode) -> Result<(), SerFail> {
+        out.int(Whole::from_u128(*self as u128))
     }
 }
 

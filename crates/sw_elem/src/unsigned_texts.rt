@@ -8,6 +8,8 @@ use crate::digits::unsigned_in;
 use crate::text::{ParseFail, TextForm};
 use std::alloc::{AllocError, Global};
 use sw_check::class::TextClass;
+use sw_tree::builds::Builds;
+use sw_tree::fail::SerFail;
 use sw_tree::number::whole_text;
 use sw_tree::whole::Whole;
 
@@ -30,6 +32,10 @@ impl TextForm for u8 {
 
     fn show(&self, alloc: Global) -> Result<String, AllocError> {
         whole_text(alloc, Whole::from_u128(u128::from(*self)))
+    }
+
+    fn show_to<B: Builds>(&self, _alloc: Global, out: &mut B) -> Result<(), SerFail> {
+        out.int_text(Whole::from_u128(u128::from(*self)))
     }
 
     fn parse(_alloc: Global, text: &str) -> Result<u8, ParseFail> {
@@ -67,6 +73,10 @@ impl TextForm for u16 {
         whole_text(alloc, Whole::from_u128(u128::from(*self)))
     }
 
+    fn show_to<B: Builds>(&self, _alloc: Global, out: &mut B) -> Result<(), SerFail> {
+        out.int_text(Whole::from_u128(u128::from(*self)))
+    }
+
     fn parse(_alloc: Global, text: &str) -> Result<u16, ParseFail> {
         match unsigned_in(text, u16::MAX as u128) {
             Some(value) => Ok(value as u16),
@@ -100,6 +110,10 @@ impl TextForm for u32 {
 
     fn show(&self, alloc: Global) -> Result<String, AllocError> {
         whole_text(alloc, Whole::from_u128(u128::from(*self)))
+    }
+
+    fn show_to<B: Builds>(&self, _alloc: Global, out: &mut B) -> Result<(), SerFail> {
+        out.int_text(Whole::from_u128(u128::from(*self)))
     }
 
     fn parse(_alloc: Global, text: &str) -> Result<u32, ParseFail> {
@@ -137,6 +151,10 @@ impl TextForm for u64 {
         whole_text(alloc, Whole::from_u128(u128::from(*self)))
     }
 
+    fn show_to<B: Builds>(&self, _alloc: Global, out: &mut B) -> Result<(), SerFail> {
+        out.int_text(Whole::from_u128(u128::from(*self)))
+    }
+
     fn parse(_alloc: Global, text: &str) -> Result<u64, ParseFail> {
         match unsigned_in(text, u64::MAX as u128) {
             Some(value) => Ok(value as u64),
@@ -172,6 +190,10 @@ impl TextForm for u128 {
         whole_text(alloc, Whole::from_u128(*self))
     }
 
+    fn show_to<B: Builds>(&self, _alloc: Global, out: &mut B) -> Result<(), SerFail> {
+        out.int_text(Whole::from_u128(*self))
+    }
+
     fn parse(_alloc: Global, text: &str) -> Result<u128, ParseFail> {
         match unsigned_in(text, u128::MAX) {
             Some(value) => Ok(value),
@@ -205,6 +227,10 @@ impl TextForm for usize {
 
     fn show(&self, alloc: Global) -> Result<String, AllocError> {
         whole_text(alloc, Whole::from_u128(*self as u128))
+    }
+
+    fn show_to<B: Builds>(&self, _alloc: Global, out: &mut B) -> Result<(), SerFail> {
+        out.int_text(Whole::from_u128(*self as u128))
     }
 
     fn parse(_alloc: Global, text: &str) -> Result<usize, ParseFail> {
