@@ -20,17 +20,15 @@ use Rattle.sw_elem.specs.Equations.{Writes, Reads, Spots, Skips, LawfulReading}
 use Rattle.sw_elem.specs.Laws.{Norm}
 use Rattle.sw_elem.specs.Lawful.{Lawful}
 use Rattle.std.specs.Result.{IfOk, IsErrAnd}
-use Rattle.sw_elem.specs.Answers.{IsRead, IsWritten}
+use Rattle.sw_elem.specs.Answers.{IsRead}
 use Rattle.sw_tree.specs.declared.fail.DeFail.{DeFail}
 use Rattle.sw_tree.specs.declared.fail.SerError.{SerError}
 use Rattle.sw_tree.specs.declared.fail.SerFail.{SerFail}
 use Rattle.sw_tree.specs.declared.fail.SerFail.TheVariants as ser
-use Rattle.sw_tree.specs.Wires.{IsPrinted}
-use Rattle.sw_tree.specs.declared.fail.PrintError.{PrintError}
-use Rattle.sw_tree.specs.declared.fail.PrintError.TheVariants as print
 use Rattle.sw_core.specs.Again.{SpellsImage, ReadsAgain, IsKept}
 use Rattle.sw_core.specs.AgainLaws.{kept_spells, kept_again}
-use Rattle.sw_core.specs.Recoding.{answer, write_error, print_error}
+use Rattle.sw_core.specs.Printing.{text_or_key, printed_as, IsPrintedAs}
+use Rattle.sw_core.specs.Recoding.{answer, write_error}
 use Rattle.sw_core.specs.declared.recode.RecodeError.{RecodeError}
 use Rattle.sw_core.specs.declared.recode.RecodeError.TheVariants as fail
 use Rattle.sw_core.proofs.Recoding.{err_is}
@@ -76,19 +74,34 @@ module _ (P : Meaning → Type 0) (w : Writes) (r : Reads) (s : Spots) (k : Skip
     pub settled : a → grade e (plain id) ≡ Exact → (b : List ℕ) → printed id text u ≡ Some b → answer r s w id spelled text b ≡ Ok (v, b)
     settled y g b p = let h = again_same y g b p in rw (h.image_of.spells, h.means, written, p) refl
 
-    pub never_unprinted : printed id text u ≡ None → ⊥
-    never_unprinted p = let i = (kept v meant).imaged u written in no_text (printed id text u) (text i.0) (ap (option_map text) i.1) p
+  pub never_unprinted : (v : Meaning) → P v → (u : Tree) → w (plain id) v ≡ Ok u → printed id text u ≡ None → ⊥
+  never_unprinted v meant u written p = let i = (kept v meant).imaged u written in no_text (printed id text u) (text i.0) (ap (option_map text) i.1) p
 
 -- a value that was read, in the mode of the wire
 pub written_plain : (w : Writes) (id : WireKind) (m : Mode) → m ≡ plain id → (v : Meaning) (u : Tree) → w m v ≡ Ok u → w (plain id) v ≡ Ok u
 written_plain w id m here v u p = ap (λ y. w y v) (sym here) ∙ p
 
--- what isn't printed is refused for want of memory alone
-pub print_never_key : {T : Type 0} (x : Result T RecodeError) (e : PrintError) (o : Option (List ℕ)) → IsErrAnd x (λ r. r ≡ print_error e) → IsPrinted (Err e) o → (o ≡ None → ⊥) → x ≡ Err (fail.Unwritable Key) → ⊥
-print_never_key x print.Key o k h never p = never h
-print_never_key x print.Memory o k h never p = let q = err_is x fail.Memory k in cc (p, q)
+-- ---- a value that is put straight into the wire's text
 
--- what isn't written is refused for another reason, or for want of memory
-pub write_never_key : {T : Type 0} (x : Result T RecodeError) (e : SerFail) (q : Result Tree SerError) → IsErrAnd x (λ r. r ≡ write_error e) → IsWritten (Err e) q → (q ≡ Err Key → ⊥) → x ≡ Err (fail.Unwritable Key) → ⊥
-write_never_key x (ser.Unwritable r) q k h never p = let is = err_is x (fail.Unwritable r) k in let same : r ≡ Key = cc (is, p) in never (h ∙ ap (λ d. Err d) same)
-write_never_key x ser.Memory q k h never p = let is = err_is x fail.Memory k in cc (p, is)
+text_is : (o : Option (List ℕ)) (b : List ℕ) → text_or_key o ≡ Ok b → o ≡ Some b
+text_is (Some c) b p = cc
+text_is None b p = absurd (cc)
+
+none_is : (o : Option (List ℕ)) → text_or_key o ≡ Err Key → o ≡ None
+none_is (Some c) p = absurd (cc)
+none_is None p = refl
+
+-- the tree that was written, and what it prints as
+pub written_text : (id : WireKind) (text : Texts) (r : Result Tree SerError) (b : List ℕ) → printed_as id text r ≡ Ok b → (t : Tree) × (r ≡ Ok t) × (printed id text t ≡ Some b)
+written_text id text (Ok t) b p = (t, refl, text_is (printed id text t) b p)
+written_text id text (Err e) b p = absurd (cc)
+
+-- what isn't refused for a key, and prints, has a text
+pub never_keyed : (id : WireKind) (text : Texts) (r : Result Tree SerError) → (r ≡ Err Key → ⊥) → ((t : Tree) → r ≡ Ok t → printed id text t ≡ None → ⊥) → printed_as id text r ≡ Err Key → ⊥
+never_keyed id text (Ok t) a b p = b t refl (none_is (printed id text t) p)
+never_keyed id text (Err e) a b p = let same : e ≡ Key = cc in a (ap (λ d. Err d) same)
+
+-- what has no text is refused for another reason, or for want of memory
+pub text_never_key : {T : Type 0} (x : Result T RecodeError) (e : SerFail) (q : Result (List ℕ) SerError) → IsErrAnd x (λ r. r ≡ write_error e) → IsPrintedAs (Err e) q → (q ≡ Err Key → ⊥) → x ≡ Err (fail.Unwritable Key) → ⊥
+text_never_key x (ser.Unwritable r) q k h never p = let is = err_is x (fail.Unwritable r) k in let same : r ≡ Key = cc (is, p) in never (h ∙ ap (λ d. Err d) same)
+text_never_key x ser.Memory q k h never p = let is = err_is x fail.Memory k in cc (p, is)

@@ -25,13 +25,7 @@ pub traverse-values : {T : Type 0} (w : Meaning → Result Tree SerError) (f : T
 traverse-values w f [] = refl
 traverse-values w f (x ∷ xs) = rw (traverse-values w f xs) refl
 
-pub within_fits : (t : Tree) → depth t ≤ 128 → within t ≡ Ok t
-within_fits t h = rw (le-leb (depth t) 128 h) refl
-
-pub within_above : (t : Tree) → 128 < depth t → within t ≡ Err ser.TooDeep
-within_above t h = rw (lt-leb (depth t) 128 h) refl
-
-pub ruleset written = (traverse-values, within_fits, within_above)
+pub ruleset written = (traverse-values)
 
 abbrev view_of : Bool → ℕ → Tree → Seen
 view_of counts place t = record { tree = t; place = place; counts = counts }

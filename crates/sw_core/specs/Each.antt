@@ -10,12 +10,6 @@ use Rattle.sw_tree.specs.declared.fail.DeFail.{DeFail}
 use Rattle.sw_tree.specs.declared.fail.DeFail.TheVariants as de
 use Rattle.sw_tree.specs.declared.fail.Refusal.{Refusal}
 
--- the trees exactly where all are written, the first refusal exactly where there is one, or want of memory
-abbrev pub AreWritten : Result (Vec Tree Global) SerFail → Result (List Tree) SerError → Type 0
-AreWritten (Ok v) r = r ≡ Ok v.items
-AreWritten (Err (ser.Unwritable e)) r = r ≡ Err e
-AreWritten (Err ser.Memory) r = Unit {0}
-
 -- the values exactly where all are read, the first refusal exactly where there is one, or want of memory
 abbrev pub AreRead : {T : Type 0} → (T → Meaning) → Result (Vec T Global) DeFail → Result (List Meaning) Refusal → Type 0
 AreRead f (Ok v) r = r ≡ Ok (map f v.items)

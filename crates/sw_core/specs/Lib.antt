@@ -11,6 +11,7 @@ pub mod ListBack
 pub mod ListSpots
 pub mod VecKeeps
 pub mod Faithful
+pub mod Printing
 pub mod Recoding
 pub mod Again
 pub mod AgainLaws

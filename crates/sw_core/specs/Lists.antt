@@ -1,19 +1,14 @@
 -- A list of values.
-use Rattle.std.specs.Prelude.{◌+◌, cond, nat_le, [], Result, Ok, Err}
+use Rattle.std.specs.Prelude.{◌+◌, [], Ok, Err}
+pub use Rattle.sw_tree.specs.Building.{within}
 use Rattle.sw_tree.specs.Meaning.{list, meanings, parts}
 use Rattle.sw_tree.specs.Mode.{at_value}
 use Rattle.sw_tree.specs.Placed.{spot_items, notes_items, moved}
 use Rattle.sw_tree.specs.Steps.{bind, traverse}
-use Rattle.sw_tree.specs.Tree.{Tree, trees, items, depth, kind_of}
+use Rattle.sw_tree.specs.Tree.{trees, items, kind_of}
 use Rattle.sw_tree.specs.Tree as node
-use Rattle.sw_tree.specs.declared.fail.SerError.{SerError}
-use Rattle.sw_tree.specs.declared.fail.SerError.TheVariants as ser
 use Rattle.sw_tree.specs.declared.fail.DeError.TheVariants as fail
 use Rattle.sw_elem.specs.Equations.{Writes, Reads, Spots, Skips}
-
--- a tree of at most 128 levels
-abbrev pub within : Tree → Result Tree SerError
-within t = cond (nat_le (depth t) 128) (Ok t) (Err ser.TooDeep)
 
 -- the parts' trees in order, or the first refusal; what no list means is free
 abbrev pub list_writes : Writes → Writes

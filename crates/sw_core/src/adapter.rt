@@ -1,9 +1,11 @@
 use std::alloc::{AllocError, Global};
 use sw_check::expr::Expr;
+use sw_tree::builds::Builds;
 use sw_tree::fail::{DeFail, SerFail};
 use sw_tree::meant::Meant;
 use sw_tree::mode::Mode;
 use sw_tree::node::Node;
+use sw_tree::node_builder::NodeBuilder;
 use sw_tree::skipped::Skipped;
 use sw_tree::view::View;
 
@@ -12,13 +14,32 @@ use sw_tree::view::View;
 /// It names the tree of each meaning in each mode, or why it isn't written.
 pub trait SerializeAs<T: Meant> {
     ghost use Rattle.sw_elem.specs.Equations.{Writes};
+    ghost use Rattle.sw_tree.specs.Building.{IsPut};
     ghost use Rattle.sw_elem.specs.Answers.{IsWritten};
 
     ghost writes: { Writes };
 
+    /// Puts the value's tree in that mode into what is built. `Unwritable` exactly where the value
+    /// has none, with its reason; nothing is said then of what is built.
+    fn write_as<B: Builds>(
+        alloc: Global,
+        out: &mut B,
+        source: &T,
+        mode: Mode,
+    ) -> Result<(), SerFail>
+        ensures { IsPut B.put result (writes mode (T.meaning source.now)) out.old out.new };
+
     /// The value's tree in that mode. `Unwritable` exactly where the value has none, with its reason.
     fn serialize_as(alloc: Global, source: &T, mode: Mode) -> Result<Node, SerFail>
-        ensures { IsWritten result (writes mode (T.meaning source.now)) };
+        ensures { IsWritten result (writes mode (T.meaning source.now)) }
+    {
+        let mut builder = NodeBuilder::new(alloc);
+        Self::write_as(alloc, &mut builder, source, mode)?;
+        match builder.finish() {
+            Some(node) => Ok(node),
+            None => Err(SerFail::Memory),
+        }
+    }
 }
 
 /// Reads a `T`, in place of serde_with's `DeserializeAs`.

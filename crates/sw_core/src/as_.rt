@@ -2,10 +2,9 @@ ghost use Rattle.std.specs.Prelude.{◌≡◌, ◌≢◌, ◌≤◌, true, Ok, E
 ghost use Rattle.sw_tree.specs.Placed.{placed, placed_notes};
 ghost use Rattle.sw_tree.specs.View.{seen, tree_of};
 ghost use Rattle.sw_tree.specs.Mode.{plain};
-ghost use Rattle.sw_tree.specs.Tree.{depth};
-ghost use Rattle.sw_tree.specs.Proper.{IsProper};
+ghost use Rattle.sw_tree.specs.Tree.{Tree};
 ghost use Rattle.sw_tree.specs.Short.{IsShort};
-ghost use Rattle.sw_tree.specs.Wires.{IsPrinted, printed};
+ghost use Rattle.sw_core.specs.Printing.{IsPrintedAs, printed_as};
 ghost use Rattle.sw_tree.specs.declared.fail.SerError.TheVariants.{Key};
 ghost use Rattle.sw_check.specs.Grade.{grade};
 ghost use Rattle.sw_check.specs.declared.grade.Grade.TheVariants.{Exact};
@@ -19,7 +18,7 @@ use crate::recode::RecodeError;
 use crate::token::Faithful;
 use std::alloc::Global;
 use std::marker::PhantomData;
-use sw_tree::fail::{DeFail, PrintError, SerFail};
+use sw_tree::fail::{DeFail, PrintError, SerError, SerFail};
 use sw_tree::meant::Meant;
 use sw_tree::mode::Mode;
 use sw_tree::node::Node;
@@ -93,22 +92,41 @@ impl<A> As<A> {
         ensures never_key { result ≢ Err (Unwritable Key) }
     {
         let mode = Mode::plain(W::ID);
+        let room = bytes.len();
         let doc = W::read_tree(alloc, bytes)?;
         let value = As::<A>::deserialize::<T>(alloc, doc.view(), mode, log)?;
         drop(doc);
-        let written = A::serialize_as(alloc, &value, mode)?;
-        let text = text_of::<W>(alloc, written)?;
+        let text = text_of::<T, A, W>(alloc, room, &value, mode)?;
         Ok((value, text))
     }
 }
 
-/// The text of the node, which is then let go; and what the law of a wire asks of a node's tree.
-fn text_of<W: Wire>(alloc: Global, node: Node) -> Result<Vec<u8>, PrintError>
-    ensures text { IsPrinted result (printed W.ID W.text node) }
-    ensures proper { IsProper node }
-    ensures shallow { depth node ≤ 128 }
-    ensures short { IsShort node }
+/// The text of the value on the wire, by `A`, whose own refusals come first; `Key` too where its tree has a key without
+/// an image. Room for about so many bytes is taken first.
+fn text_of<T: Meant, A: SerializeAs<T>, W: Wire>(
+    alloc: Global,
+    room: usize,
+    value: &T,
+    mode: Mode,
+) -> Result<Vec<u8>, SerFail>
+    ensures text { IsPrintedAs result (printed_as W.ID W.text (A.writes mode (T.meaning value.now))) }
+    ensures short { IfOk result (λ _. (t : Tree) → A.writes mode (T.meaning value.now) ≡ Ok t → IsShort t) }
 {
-    let _kind = node.kind();
-    W::print(alloc, &node)
+    let Ok(mut writer) = W::writer(alloc, room) else {
+        return Err(SerFail::Memory);
+    };
+    A::write_as(alloc, &mut writer, value, mode)?;
+    finished::<W>(alloc, writer)
+}
+
+/// What finishing a text answers.
+fn finished<W: Wire>(alloc: Global, writer: W::Writer) -> Result<Vec<u8>, SerFail>
+    ensures text { (t : Tree) → writer ≡ W.Writer.put t W.fresh → IsPrintedAs result (printed_as W.ID W.text (Ok t)) }
+    ensures short { (t : Tree) → writer ≡ W.Writer.put t W.fresh → IfOk result (λ _. IsShort t) }
+{
+    match W::finish(alloc, writer) {
+        Ok(text) => Ok(text),
+        Err(PrintError::Key) => Err(SerFail::Unwritable(SerError::Key)),
+        Err(PrintError::Memory) => Err(SerFail::Memory),
+    }
 }

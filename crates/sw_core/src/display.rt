@@ -4,9 +4,9 @@ use sw_check::expr::Expr;
 use sw_elem::facts::text_facts;
 use sw_elem::refuse::refused_at;
 use sw_elem::text::{ParseFail, TextForm};
+use sw_tree::builds::Builds;
 use sw_tree::fail::{DeError, DeFail, SerFail};
 use sw_tree::mode::Mode;
-use sw_tree::node::Node;
 use sw_tree::skipped::Skipped;
 use sw_tree::view::View;
 
@@ -22,11 +22,13 @@ impl<T: TextForm> SerializeAs<T> for DisplayFromStr {
 
     ghost writes = { display_writes T.shows };
 
-    fn serialize_as(alloc: Global, source: &T, _mode: Mode) -> Result<Node, SerFail> {
-        match source.show(alloc) {
-            Ok(text) => Ok(Node::text(text)),
-            Err(_) => Err(SerFail::Memory),
-        }
+    fn write_as<B: Builds>(
+        alloc: Global,
+        out: &mut B,
+        source: &T,
+        _mode: Mode,
+    ) -> Result<(), SerFail> {
+        source.show_to(alloc, out)
     }
 }
 

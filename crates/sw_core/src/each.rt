@@ -1,37 +1,38 @@
 #![tactic(auto, using(crate::proofs::Logs::gains))]
 
-ghost use Rattle.sw_tree.specs.Steps.{traverse};
+ghost use Rattle.sw_tree.specs.Steps.{bind, traverse};
+ghost use Rattle.sw_tree.specs.Building.{within, IsPut};
+ghost use Rattle.sw_tree.specs.Tree.{list, trees};
 ghost use Rattle.sw_tree.specs.Placed.{placed, placed_notes, logs_each};
 ghost use Rattle.sw_elem.specs.Answers.{IsLogged};
-ghost use Rattle.sw_core.specs.Each.{AreWritten, AreRead};
+ghost use Rattle.sw_core.specs.Each.{AreRead};
 
 use crate::adapter::{DeserializeAs, SerializeAs};
 use std::alloc::Global;
+use sw_tree::builds::Builds;
 use sw_tree::fail::{DeFail, SerFail};
 use sw_tree::meant::Meant;
 use sw_tree::mode::Mode;
-use sw_tree::node::Node;
 use sw_tree::skipped::Skipped;
 use sw_tree::view::Items;
 
-/// Writes each value by `A`.
-pub fn write_each<T: Meant, A: SerializeAs<T>>(
+/// Puts in the list of these values, each by `A`.
+///
+/// The first part that isn't written decides. Without one, a list of which a part has 128 levels is
+/// `TooDeep`.
+pub fn write_each<T: Meant, A: SerializeAs<T>, B: Builds>(
     alloc: Global,
+    out: &mut B,
     values: &[T],
     mode: Mode,
-) -> Result<Vec<Node>, SerFail>
-    ensures { AreWritten result (traverse (λ x. A.writes mode (T.meaning x)) values.now) }
+) -> Result<(), SerFail>
+    ensures { IsPut B.put result (bind (traverse (λ x. A.writes mode (T.meaning x)) values.now) (λ ts. within (list (trees ts)))) out.old out.new }
 {
-    let Ok(mut nodes) = Vec::with_capacity(alloc, values.len()) else {
-        return Err(SerFail::Memory);
-    };
+    out.open_list(values.len())?;
     for value in values {
-        let node = A::serialize_as(alloc, value, mode)?;
-        if nodes.push(node).is_err() {
-            return Err(SerFail::Memory);
-        }
+        A::write_as(alloc, out, value, mode)?;
     }
-    Ok(nodes)
+    out.close()
 }
 
 /// Reads each item by `A`, into a list with room for so many taken at once.

@@ -3,9 +3,9 @@ use std::alloc::{AllocError, Global};
 use sw_check::expr::Expr;
 use sw_elem::element::Element;
 use sw_elem::serialize::{Deserialize, Serialize};
+use sw_tree::builds::Builds;
 use sw_tree::fail::{DeFail, SerFail};
 use sw_tree::mode::Mode;
-use sw_tree::node::Node;
 use sw_tree::skipped::Skipped;
 use sw_tree::view::View;
 
@@ -16,8 +16,13 @@ pub struct Same;
 impl<T: Serialize> SerializeAs<T> for Same {
     ghost writes = { T.writes };
 
-    fn serialize_as(alloc: Global, source: &T, mode: Mode) -> Result<Node, SerFail> {
-        source.serialize(alloc, mode)
+    fn write_as<B: Builds>(
+        alloc: Global,
+        out: &mut B,
+        source: &T,
+        mode: Mode,
+    ) -> Result<(), SerFail> {
+        source.write(alloc, out, mode)
     }
 }
 

@@ -28,6 +28,7 @@ use sw_tree::fail::{DeError, DeFail, PrintError, Refusal, WireError};
 use sw_tree::meant::Meant;
 use sw_tree::mode::{Kind, Mode, WireKind};
 use sw_tree::node::Node;
+use sw_tree::node_builder::NodeBuilder;
 use sw_tree::skipped::Skipped;
 use sw_tree::whole::Whole;
 use sw_tree::wire::Wire;
@@ -150,6 +151,7 @@ struct ByteWire;
 
 impl Wire for ByteWire {
     ghost use Rattle.sw_tree.specs.declared.mode.WireKind.TheVariants.{Compact};
+    ghost use Rattle.sw_tree.specs.NodeBuilder.{fresh};
     ghost use Rattle.sw_core.specs.ByteWire.{byte_spells, byte_spelled, byte_text, byte_grammar, byte_prints_images};
 
     const ID: WireKind = WireKind::Compact;
@@ -165,6 +167,10 @@ impl Wire for ByteWire {
     ghost grammar = { byte_grammar };
 
     ghost prints_images = { byte_prints_images };
+
+    type Writer = NodeBuilder;
+
+    ghost fresh = { fresh };
 
     fn read_tree<'de>(alloc: Global, bytes: &'de [u8]) -> Result<Doc<'de>, WireError> {
         match bytes {
@@ -187,6 +193,20 @@ impl Wire for ByteWire {
                 Ok(bytes) => Ok(bytes),
                 Err(_) => Err(PrintError::Memory),
             },
+        }
+    }
+
+    fn writer(alloc: Global, _bytes: usize) -> Result<NodeBuilder, AllocError> {
+        Ok(NodeBuilder::new(alloc))
+    }
+
+    fn finish(alloc: Global, writer: NodeBuilder) -> Result<Vec<u8>, PrintError> {
+        match writer.finish() {
+            Some(node) => {
+                let _kind = node.kind();
+                ByteWire::print(alloc, &node)
+            }
+            None => Err(PrintError::Memory),
         }
     }
 }

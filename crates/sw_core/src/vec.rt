@@ -5,10 +5,10 @@ use crate::each;
 use std::alloc::{AllocError, Global};
 use sw_check::expr::Expr;
 use sw_elem::refuse::refused_at;
-use sw_tree::fail::{DeError, DeFail, SerError, SerFail};
+use sw_tree::builds::Builds;
+use sw_tree::fail::{DeError, DeFail, SerFail};
 use sw_tree::meant::Meant;
 use sw_tree::mode::Mode;
-use sw_tree::node::Node;
 use sw_tree::skipped::Skipped;
 use sw_tree::view::View;
 
@@ -21,12 +21,13 @@ impl<T: Meant, A: SerializeAs<T>> SerializeAs<Vec<T>> for Vec<A> {
 
     ghost writes = { list_writes A.writes };
 
-    fn serialize_as(alloc: Global, source: &Vec<T>, mode: Mode) -> Result<Node, SerFail> {
-        let nodes = each::write_each::<T, A>(alloc, source.as_slice(), mode.value())?;
-        match Node::list(nodes) {
-            Ok(node) => Ok(node),
-            Err(_) => Err(SerFail::Unwritable(SerError::TooDeep)),
-        }
+    fn write_as<B: Builds>(
+        alloc: Global,
+        out: &mut B,
+        source: &Vec<T>,
+        mode: Mode,
+    ) -> Result<(), SerFail> {
+        each::write_each::<T, A, B>(alloc, out, source.as_slice(), mode.value())
     }
 }
 
