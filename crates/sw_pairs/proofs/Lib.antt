@@ -1,3 +1,4 @@
 pub mod Logs
 pub mod Entries
 pub mod Maps
+pub mod Putting

@@ -18,7 +18,7 @@ use Rattle.sw_tree.specs.declared.fail.SerFail.{SerFail}
 use Rattle.sw_tree.specs.declared.fail.SerFail.TheVariants as write
 use Rattle.sw_elem.specs.Equations.{Writes, Reads, Spots, Skips}
 use Rattle.sw_elem.specs.Answers.{IsWritten, IsRead, IsLogged}
-use Rattle.sw_pairs.specs.Pairs.{both, ArePairsWritten, ArePairsRead, logs_entries}
+use Rattle.sw_pairs.specs.Pairs.{both, ArePairsRead, logs_entries}
 use Rattle.sw_pairs.specs.Maps.{pair_writes, map_writes, map_reads, map_spot, map_skips, pairs_meaning}
 use Rattle.sw_tree.specs.declared.fail.DeFail.{DeFail}
 use Rattle.sw_tree.specs.declared.fail.DeFail.TheVariants as de
@@ -30,34 +30,6 @@ pub traverse-pairs : {A B : Type 0} (k w : Meaning → Result Tree SerError) (f 
     traverse (pair_writes k w) (parts (meanings (map (pair_meaning f g) xs))) ≡ traverse (pair_of (λ x. k (f x)) (λ y. w (g y))) xs
 traverse-pairs k w f g [] = refl
 traverse-pairs k w f g (x ∷ xs) = rw (traverse-pairs k w f g xs) refl
-
-pub within_fits : (t : Tree) → depth t ≤ 128 → within t ≡ Ok t
-within_fits t h = rw (le-leb (depth t) 128 h) refl
-
-pub within_above : (t : Tree) → 128 < depth t → within t ≡ Err ser.TooDeep
-within_above t h = rw (lt-leb (depth t) 128 h) refl
-
--- a map of pairs that are all written, and of pairs of which one isn't
-module _ {A B : Type 0} (k w : Writes) (m : Mode) (f : A → Meaning) (g : B → Meaning) (xs : List (A × B)) where
-  abbrev written_each : Result (List (Tree × Tree)) SerError
-  written_each = traverse (pair_of (λ x. k (at_key m) (f x)) (λ y. w (at_value m) (g y))) xs
-
-  abbrev written_map : Result Tree SerError
-  written_map = map_writes k w m (list_meaning (pair_meaning f g) xs)
-
-  written_through : written_map ≡ bind written_each (λ es. within (node.map (entries es)))
-  written_through = ap (λ r. bind r (λ es. within (node.map (entries es)))) (traverse-pairs (k (at_key m)) (w (at_value m)) f g xs)
-
-  pub map_fits : (t : Tree) (es : List (Tree × Tree)) → written_each ≡ Ok es → t ≡ node.map (entries es) → depth t ≤ 128 → written_map ≡ Ok t
-  map_fits t es p e h = rw (written_through, p) (ap within (sym e) ∙ within_fits t h)
-
-  pub map_above : (es : List (Tree × Tree)) → written_each ≡ Ok es → 128 < depth (node.map (entries es)) → written_map ≡ Err ser.TooDeep
-  map_above es p h = rw (written_through, p) (within_above (node.map (entries es)) h)
-
-  pub map_unwritten : (fail : SerFail) → ArePairsWritten (Err fail) written_each → (x : Result Tree SerFail) → IsErrAnd x (λ e. e ≡ fail) → IsWritten x written_map
-  map_unwritten (write.Unwritable e) h (Err d) i = rw (i, written_through, h) refl
-  map_unwritten write.Memory h (Err d) i = rw i tt
-  map_unwritten fail h (Ok t) i = absurd i
 
 each_both : {A B : Type 0} (f : A → Meaning) (g : B → Meaning) (xs : List (A × B)) → map (λ p. pair p.0 p.1) (map (both f g) xs) ≡ map (pair_meaning f g) xs
 each_both f g [] = refl

@@ -1,4 +1,4 @@
--- What writing and reading pairs answers, and what is passed over in the entries of a map.
+-- What reading pairs answers, and what is passed over in the entries of a map.
 use Rattle.std.specs.Prelude.{◌≡◌, List, [], ◌∷◌, ◌++◌, map as list_map, cond, is_ok, Result, Ok, Err, Vec}
 use Rattle.std.specs.declared.alloc.Global.{Global}
 use Rattle.sw_tree.specs.Meaning.{Meaning}
@@ -16,18 +16,6 @@ use Rattle.sw_tree.specs.declared.fail.Refusal.{Refusal}
 -- both meanings of a pair
 abbrev pub both : {A B : Type 0} → (A → Meaning) → (B → Meaning) → A × B → Meaning × Meaning
 both f g p = (f p.0, g p.1)
-
--- the trees exactly where both are written, the first refusal exactly where there is one, or want of memory
-abbrev pub IsPairWritten : Result (Tree × Tree) SerFail → Result (Tree × Tree) SerError → Type 0
-IsPairWritten (Ok e) r = r ≡ Ok e
-IsPairWritten (Err (ser.Unwritable e)) r = r ≡ Err e
-IsPairWritten (Err ser.Memory) r = Unit {0}
-
--- the same of pairs one after another
-abbrev pub ArePairsWritten : Result (Vec (Tree × Tree) Global) SerFail → Result (List (Tree × Tree)) SerError → Type 0
-ArePairsWritten (Ok v) r = r ≡ Ok v.items
-ArePairsWritten (Err (ser.Unwritable e)) r = r ≡ Err e
-ArePairsWritten (Err ser.Memory) r = Unit {0}
 
 -- the pairs exactly where all are read, the first refusal exactly where there is one, or want of memory
 abbrev pub ArePairsRead : {A B : Type 0} → (A → Meaning) → (B → Meaning) → Result (Vec (A × B) Global) DeFail → Result (List (Meaning × Meaning)) Refusal → Type 0

@@ -4,10 +4,10 @@ use std::marker::PhantomData;
 use sw_check::expr::Expr;
 use sw_core::adapter::{Adapter, DeserializeAs, SerializeAs};
 use sw_elem::refuse::refused_at;
-use sw_tree::fail::{DeError, DeFail, SerError, SerFail};
+use sw_tree::builds::Builds;
+use sw_tree::fail::{DeError, DeFail, SerFail};
 use sw_tree::meant::Meant;
 use sw_tree::mode::Mode;
-use sw_tree::node::Node;
 use sw_tree::skipped::Skipped;
 use sw_tree::view::View;
 
@@ -29,12 +29,13 @@ impl<T: Meant, U: Meant, K: SerializeAs<T>, V: SerializeAs<U>> SerializeAs<Vec<(
 
     ghost writes = { map_writes K.writes V.writes };
 
-    fn serialize_as(alloc: Global, source: &Vec<(T, U)>, mode: Mode) -> Result<Node, SerFail> {
-        let entries = pairs::write_pairs::<T, U, K, V>(alloc, source.as_slice(), mode)?;
-        match Node::map(entries) {
-            Ok(node) => Ok(node),
-            Err(_) => Err(SerFail::Unwritable(SerError::TooDeep)),
-        }
+    fn write_as<B: Builds>(
+        alloc: Global,
+        out: &mut B,
+        source: &Vec<(T, U)>,
+        mode: Mode,
+    ) -> Result<(), SerFail> {
+        pairs::write_entries::<T, U, K, V, B>(alloc, out, source.as_slice(), mode)
     }
 }
 

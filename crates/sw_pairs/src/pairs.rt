@@ -2,53 +2,46 @@
 
 ghost use Rattle.sw_tree.specs.Mode.{at_key, at_value};
 ghost use Rattle.sw_tree.specs.Placed.{placed, placed_notes, pair_of};
-ghost use Rattle.sw_tree.specs.Steps.{traverse};
+ghost use Rattle.sw_tree.specs.Building.{within, IsPut};
+ghost use Rattle.sw_tree.specs.Steps.{bind, traverse};
+ghost use Rattle.sw_tree.specs.Tree.{map, entries};
 ghost use Rattle.sw_tree.specs.View.{seen};
 ghost use Rattle.sw_elem.specs.Answers.{IsRead, IsLogged};
-ghost use Rattle.sw_pairs.specs.Pairs.{both, IsPairWritten, ArePairsWritten, ArePairsRead, logs_entry, logs_entries};
+ghost use Rattle.sw_pairs.specs.Pairs.{both, ArePairsRead, logs_entry, logs_entries};
 
 use std::alloc::Global;
 use sw_core::adapter::{DeserializeAs, SerializeAs};
+use sw_tree::builds::Builds;
 use sw_tree::fail::{DeFail, SerFail};
 use sw_tree::meant::Meant;
 use sw_tree::mode::Mode;
-use sw_tree::node::Node;
 use sw_tree::skipped::Skipped;
 use sw_tree::view::{Entries, View};
 
-/// Writes each pair, its key by `K` in key place, then its value by `V` in value place.
-pub fn write_pairs<T: Meant, U: Meant, K: SerializeAs<T>, V: SerializeAs<U>>(
+/// Puts in the map of these pairs, each key by `K` in key place, then its value by `V` in value
+/// place.
+///
+/// The first part that isn't written decides, a key before its value. Without one, a map of which a
+/// key or value has 128 levels is `TooDeep`.
+pub fn write_entries<T: Meant, U: Meant, K: SerializeAs<T>, V: SerializeAs<U>, B: Builds>(
     alloc: Global,
+    out: &mut B,
     pairs: &[(T, U)],
     mode: Mode,
-) -> Result<Vec<(Node, Node)>, SerFail>
-    ensures { ArePairsWritten
+) -> Result<(), SerFail>
+    ensures { IsPut
+        B.put
         result
-        (traverse (pair_of (λ x. K.writes (at_key mode) (T.meaning x)) (λ y. V.writes (at_value mode) (U.meaning y))) pairs.now) }
+        (bind (traverse (pair_of (λ x. K.writes (at_key mode) (T.meaning x)) (λ y. V.writes (at_value mode) (U.meaning y))) pairs.now) (λ es. within (map (entries es))))
+        out.old
+        out.new }
 {
-    let mut entries = Vec::with_capacity(alloc, pairs.len())?;
+    out.open_map(pairs.len())?;
     for pair in pairs {
-        let entry = write_pair::<T, U, K, V>(alloc, pair, mode)?;
-        if entries.push(entry).is_err() {
-            return Err(SerFail::Memory);
-        }
+        K::write_as(alloc, out, &pair.0, mode.key())?;
+        V::write_as(alloc, out, &pair.1, mode.value())?;
     }
-    Ok(entries)
-}
-
-/// Writes the key, then the value.
-fn write_pair<T: Meant, U: Meant, K: SerializeAs<T>, V: SerializeAs<U>>(
-    alloc: Global,
-    pair: &(T, U),
-    mode: Mode,
-) -> Result<(Node, Node), SerFail>
-    ensures { IsPairWritten
-        result
-        (pair_of (λ x. K.writes (at_key mode) (T.meaning x)) (λ y. V.writes (at_value mode) (U.meaning y)) pair.now) }
-{
-    let key = K::serialize_as(alloc, &pair.0, mode.key())?;
-    let value = V::serialize_as(alloc, &pair.1, mode.value())?;
-    Ok((key, value))
+    out.close()
 }
 
 /// Reads each entry, its key by `K` in key place, then its value by `V` in value place. Room for

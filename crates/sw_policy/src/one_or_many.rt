@@ -6,10 +6,10 @@ use std::alloc::{AllocError, Global};
 use std::marker::PhantomData;
 use sw_check::expr::Expr;
 use sw_core::adapter::{Adapter, DeserializeAs, SerializeAs};
+use sw_tree::builds::Builds;
 use sw_tree::fail::{DeFail, SerFail};
 use sw_tree::meant::Meant;
 use sw_tree::mode::Mode;
-use sw_tree::node::Node;
 use sw_tree::skipped::Skipped;
 use sw_tree::view::View;
 
@@ -37,12 +37,17 @@ impl<T: Meant, A: SerializeAs<T>, F: Preference> SerializeAs<Vec<T>> for OneOrMa
 
     ghost writes = { one_or_many_writes F.ALONE A.writes };
 
-    fn serialize_as(alloc: Global, source: &Vec<T>, mode: Mode) -> Result<Node, SerFail> {
+    fn write_as<B: Builds>(
+        alloc: Global,
+        out: &mut B,
+        source: &Vec<T>,
+        mode: Mode,
+    ) -> Result<(), SerFail> {
         let values = source.as_slice();
         if F::ALONE && values.len() == 1 {
-            A::serialize_as(alloc, &values[0], mode.value())
+            A::write_as(alloc, out, &values[0], mode.value())
         } else {
-            <Vec<A> as SerializeAs<Vec<T>>>::serialize_as(alloc, source, mode)
+            <Vec<A> as SerializeAs<Vec<T>>>::write_as(alloc, out, source, mode)
         }
     }
 }

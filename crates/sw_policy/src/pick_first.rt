@@ -6,10 +6,10 @@ use std::marker::PhantomData;
 use sw_check::expr::Expr;
 use sw_check::exprs::ExprList;
 use sw_core::adapter::{Adapter, DeserializeAs, SerializeAs};
+use sw_tree::builds::Builds;
 use sw_tree::fail::{DeFail, SerFail};
 use sw_tree::meant::Meant;
 use sw_tree::mode::Mode;
-use sw_tree::node::Node;
 use sw_tree::skipped::Skipped;
 use sw_tree::view::View;
 
@@ -32,8 +32,13 @@ pub struct PickFirst<O> {
 impl<T: Meant, A: SerializeAs<T>> SerializeAs<T> for PickFirst<(A,)> {
     ghost writes = { A.writes };
 
-    fn serialize_as(alloc: Global, source: &T, mode: Mode) -> Result<Node, SerFail> {
-        A::serialize_as(alloc, source, mode)
+    fn write_as<W: Builds>(
+        alloc: Global,
+        out: &mut W,
+        source: &T,
+        mode: Mode,
+    ) -> Result<(), SerFail> {
+        A::write_as(alloc, out, source, mode)
     }
 }
 
@@ -63,8 +68,13 @@ impl<T: Meant, A: DeserializeAs<T>> DeserializeAs<T> for PickFirst<(A,)> {
 impl<T: Meant, A: SerializeAs<T>, B: SerializeAs<T>> SerializeAs<T> for PickFirst<(A, B)> {
     ghost writes = { A.writes };
 
-    fn serialize_as(alloc: Global, source: &T, mode: Mode) -> Result<Node, SerFail> {
-        A::serialize_as(alloc, source, mode)
+    fn write_as<W: Builds>(
+        alloc: Global,
+        out: &mut W,
+        source: &T,
+        mode: Mode,
+    ) -> Result<(), SerFail> {
+        A::write_as(alloc, out, source, mode)
     }
 }
 
@@ -101,8 +111,13 @@ impl<T: Meant, A: SerializeAs<T>, B: SerializeAs<T>, C: SerializeAs<T>> Serializ
     for PickFirst<(A, B, C)> {
     ghost writes = { A.writes };
 
-    fn serialize_as(alloc: Global, source: &T, mode: Mode) -> Result<Node, SerFail> {
-        A::serialize_as(alloc, source, mode)
+    fn write_as<W: Builds>(
+        alloc: Global,
+        out: &mut W,
+        source: &T,
+        mode: Mode,
+    ) -> Result<(), SerFail> {
+        A::write_as(alloc, out, source, mode)
     }
 }
 
@@ -145,8 +160,13 @@ impl<
 > SerializeAs<T> for PickFirst<(A, B, C, D)> {
     ghost writes = { A.writes };
 
-    fn serialize_as(alloc: Global, source: &T, mode: Mode) -> Result<Node, SerFail> {
-        A::serialize_as(alloc, source, mode)
+    fn write_as<W: Builds>(
+        alloc: Global,
+        out: &mut W,
+        source: &T,
+        mode: Mode,
+    ) -> Result<(), SerFail> {
+        A::write_as(alloc, out, source, mode)
     }
 }
 
