@@ -111,8 +111,8 @@ impl<'de> DocBuilder<'de> {
         self.leaf(Cell::Bool(value))
     }
 
-    /// Adds a number of 64 bits.
-    fn small(&mut self, value: i64) -> Result<(), AllocError>
+    /// Adds that number, as `int` does.
+    pub fn small(&mut self, value: i64) -> Result<(), AllocError>
         requires no_root { self.old.root ≡ None }
         ensures ok { OnOk result (self.new ≡ added self.old (tree.int value)) }
         ensures err { OnErr result (self.new ≡ self.old) }

@@ -116,7 +116,7 @@ impl Whole {
     }
 
     /// The number as an `i64`: `None` exactly where it has more bits.
-    pub(crate) fn to_i64(self) -> Option<i64>
+    pub fn to_i64(self) -> Option<i64>
         ensures value { result ≡ signed_of 63 self }
         ensures range { IsInRange self }
     {
@@ -133,7 +133,7 @@ impl Whole {
     }
 
     /// That number.
-    pub(crate) fn from_i64(value: i64) -> Whole
+    pub fn from_i64(value: i64) -> Whole
         ensures { result ≡ value }
     {
         if value >= 0 {
