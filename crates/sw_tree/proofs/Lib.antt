@@ -1,6 +1,7 @@
 pub mod BuilderLemmas
 pub mod CellLemmas
 pub mod Children
+pub mod Fitting
 pub mod Gained
 pub mod Gathered
 pub mod GrowLemmas

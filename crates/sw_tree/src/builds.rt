@@ -1,5 +1,6 @@
 use crate::fail::SerFail;
 use crate::node::Node;
+use crate::view::View;
 use crate::whole::Whole;
 
 /// What is built node by node: a list or map is opened, its parts are put in, a map's keys and values
@@ -17,6 +18,7 @@ pub trait Builds {
     ghost use Rattle.sw_tree.specs.Tree as tree;
     ghost use Rattle.sw_tree.specs.Tree.{Tree};
     ghost use Rattle.sw_tree.specs.declared.fail.SerError.{SerError};
+    ghost use Rattle.sw_tree.specs.View.{tree_of};
     ghost use Rattle.sw_tree.specs.Building.{IsBuilt, BuildsLists, BuildsMaps};
 
     /// With that tree put in.
@@ -47,9 +49,13 @@ pub trait Builds {
     fn bytes(&mut self, value: &[u8]) -> Result<(), SerFail>
         ensures { IsBuilt result (Ok (put (tree.bytes value.now) self.old)) self.new };
 
-    /// Puts in the node's tree.
+    /// Puts in the node's tree; `write_node` does it node by node.
     fn node(&mut self, value: &Node) -> Result<(), SerFail>
         ensures { IsBuilt result (Ok (put value.now self.old)) self.new };
+
+    /// Puts in the view's tree; `write_view` does it node by node.
+    fn view(&mut self, value: &View<'_>) -> Result<(), SerFail>
+        ensures { IsBuilt result (Ok (put (tree_of value.now) self.old)) self.new };
 
     /// Opens a list. That it will have so many items is advice.
     fn open_list(&mut self, items: usize) -> Result<(), SerFail>

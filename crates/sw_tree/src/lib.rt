@@ -7,7 +7,7 @@ pub mod builds;
 mod cases;
 mod cell;
 mod containers;
-pub mod content;
+mod content;
 pub mod doc;
 pub mod fail;
 mod from_node;
@@ -15,6 +15,7 @@ mod hashed;
 pub mod images;
 mod kept;
 pub mod kinds;
+mod known;
 mod leaves;
 mod levels;
 pub mod meant;
@@ -35,10 +36,10 @@ mod unsigned;
 pub mod view;
 pub mod whole;
 pub mod wire;
+pub mod write;
 
 pub use builder::DocBuilder;
 pub use builds::Builds;
-pub use content::Content;
 pub use doc::Doc;
 pub use fail::{
     DeError, DeFail, DeKind, PrintError, Refusal, SerError, SerFail, TooDeep, WireError,
@@ -56,6 +57,7 @@ pub use skipped::Skipped;
 pub use view::{Entries, Items, View};
 pub use whole::Whole;
 pub use wire::Wire;
+pub use write::{write_node, write_view};
 
 #[cfg(test)]
 mod tests;

@@ -298,7 +298,7 @@ impl Node {
     }
 
     /// What it is, with its parts.
-    pub fn content(&self) -> Content<'_>
+    pub(crate) fn content(&self) -> Content<'_>
         ensures { content_tree result ≡ self.now }
     {
         match &self.shape {

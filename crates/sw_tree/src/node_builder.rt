@@ -8,6 +8,7 @@ ghost use Rattle.sw_tree.specs.Building.{within, IsBuilt, IsMade};
 use crate::builds::Builds;
 use crate::fail::{SerError, SerFail};
 use crate::node::Node;
+use crate::view::View;
 use crate::whole::Whole;
 use itoa::Buffer;
 use std::alloc::{AllocError, Global};
@@ -171,6 +172,13 @@ impl Builds for NodeBuilder {
 
     fn node(&mut self, value: &Node) -> Result<(), SerFail> {
         let Ok(copy) = value.copy(self.alloc) else {
+            return Err(SerFail::Memory);
+        };
+        push(&mut self.top.children, copy)
+    }
+
+    fn view(&mut self, value: &View<'_>) -> Result<(), SerFail> {
+        let Ok(copy) = value.to_node(self.alloc) else {
             return Err(SerFail::Memory);
         };
         push(&mut self.top.children, copy)

@@ -1,12 +1,14 @@
 //! What a view of a known kind shows.
-#![tactic(auto, using(crate::proofs::Views::shown))]
+#![tactic(auto, using(crate::proofs::Fitting::known))]
 
 ghost use Rattle.std.specs.Prelude.{◌≡◌};
 ghost use Rattle.sw_tree.specs.Tree.{truth, int, text, bytes, list, map, trees, entries, kind_of};
 ghost use Rattle.sw_tree.specs.Seen.{trees_of, pairs_of};
 ghost use Rattle.sw_tree.specs.View.{tree_of};
 
-use sw_tree::{Entries, Items, Kind, View, Whole};
+use crate::mode::Kind;
+use crate::view::{Entries, Items, View};
+use crate::whole::Whole;
 
 /// The truth value.
 #[inline]
