@@ -1,5 +1,6 @@
 #!/usr/bin/env python3
-"""Times the proved program beside `jq -c .`, and RapidJSON where its headers are there.
+"""Times the proved program beside `jq -c .`, and beside the document read and write of RapidJSON and simdjson, where
+their headers are there (Debian's rapidjson-dev, libsimdjson-dev).
 
 Usage: bench/recode.py [ROUNDS]
 
@@ -121,15 +122,32 @@ def best(command, text, rounds, folder):
     return min(run[0] for run in runs), max(run[1] for run in runs), output
 
 
-def yardstick(folder):
-    """RapidJSON's read and write of a document, compiled where its headers and a compiler are there."""
+# Name, source, a header that has to be there, and what it is linked with.
+YARDSTICKS = [
+    ("RapidJSON", "rapidjson.cc", "/usr/include/rapidjson/document.h", []),
+    ("simdjson", "simdjson.cc", "/usr/include/simdjson.h", ["-lsimdjson"]),
+]
+
+
+def yardsticks(folder):
+    """Each library's read and write of a document, compiled where its headers and a compiler are there."""
     compiler = shutil.which("g++")
-    if compiler is None or not os.path.exists("/usr/include/rapidjson/document.h"):
-        return None
-    built = os.path.join(folder, "yardstick")
-    source = os.path.join(TOP, "bench", "yardstick.cc")
-    subprocess.run([compiler, "-O2", "-o", built, source], check=True)
-    return built
+    found = []
+    for name, source, header, libraries in YARDSTICKS:
+        if compiler is None or not os.path.exists(header):
+            continue
+        built = os.path.join(folder, name)
+        subprocess.run([compiler, "-O2", "-o", built, os.path.join(TOP, "bench", source), *libraries], check=True)
+        found.append((name, [built]))
+    return found
+
+
+def revision():
+    """The revision of the sources, where git tells it."""
+    if shutil.which("git") is None:
+        return "unknown"
+    said = subprocess.run(["git", "-C", TOP, "describe", "--always", "--dirty"], stdout=subprocess.PIPE)
+    return said.stdout.decode().strip() or "unknown"
 
 
 def measure(profile, make_text, written, rounds, peers, folder):
@@ -158,21 +176,17 @@ def main():
     rounds = int(sys.argv[1]) if len(sys.argv) > 1 else 5
     if not os.path.exists(PROGRAM):
         sys.exit("build the program first: printf '[]' | ./sw recode ids")
-    print("machine: %s, %d processors" % (platform.machine(), os.cpu_count()))
+    print("revision: %s; machine: %s, %d processors" % (revision(), platform.machine(), os.cpu_count()))
     with tempfile.TemporaryDirectory() as folder:
-        peers = []
+        peers = yardsticks(folder)
         jq = shutil.which("jq")
-        if jq is not None:
-            peers.append(("jq -c .", [jq, "-c", "."]))
-        rapid = yardstick(folder)
-        if rapid is not None:
-            peers.append(("RapidJSON", [rapid]))
-        itself = [("recode any", [PROGRAM, "recode", "any"])]
+        # jq keeps one entry of those with equal keys, which the table has.
+        all_peers = peers if jq is None else [*peers, ("jq -c .", [jq, "-c", "."])]
         for profile, make_text, written, beside in (
-            ("any", mixed_nodes, as_it_is, peers),
-            ("ids", number_texts, as_it_is, peers),
-            ("flex", numbers_and_texts, without_quotes, itself),
-            ("table", byte_table, as_it_is, itself),
+            ("any", mixed_nodes, as_it_is, all_peers),
+            ("ids", number_texts, as_it_is, all_peers),
+            ("flex", numbers_and_texts, without_quotes, peers),
+            ("table", byte_table, as_it_is, peers),
         ):
             measure(profile, make_text, written, rounds, beside, folder)
 

@@ -20,8 +20,9 @@ use Rattle.sw_tree.specs.declared.mode.Kind.TheVariants as kind
 use Rattle.sw_tree.specs.declared.fail.DeError.TheVariants as fail
 use Rattle.sw_check.specs.Facts.{claims_at}
 use Rattle.sw_elem.specs.Facts.{all_but_bytes, stands, any_facts}
-use Rattle.sw_elem.specs.Foreign.{is_text, is_any, are_any, are_any_keyed, Foreign, further, foreign_key, foreign, foreign_items, foreign_entries, any_writes, taken, any_reads, number_of, any_spot, IsAny}
-use Rattle.sw_elem.specs.ForeignLaws.{any_foreign}
+use Rattle.sw_tree.specs.Foreign.{is_text, is_plain, are_plain, are_plain_keyed, Foreign, further, foreign_key, foreign, foreign_items, foreign_entries}
+use Rattle.sw_elem.specs.Foreign.{any_writes, taken, any_reads, number_of, any_spot, IsAny}
+use Rattle.sw_tree.specs.ForeignLaws.{plain_foreign}
 use Rattle.sw_elem.specs.Laws.{HasSpotKinds}
 use Rattle.sw_elem.specs.Lawful.{LawfulLeaf, same_norm}
 use Rattle.sw_elem.specs.Leaf.{IsBack, IsLeaf, everywhere_read, keeps_leaf}
@@ -108,7 +109,7 @@ text_image (text s) h = refl
 text_image _ h = absurd (cc)
 
 mutual
-  any_image : (t : Tree) → is_any t ≡ true → value_image t ≡ Some t
+  any_image : (t : Tree) → is_plain t ≡ true → value_image t ≡ Some t
   any_image null h = refl
   any_image (truth b) h = refl
   any_image (int n) h = refl
@@ -117,25 +118,25 @@ mutual
   any_image (list ts) h = ap (option_map list) (any_images ts h)
   any_image (map es) h = ap (option_map map) (any_entries es h)
 
-  any_images : (ts : Trees) → are_any ts ≡ true → trees_image ts ≡ Some ts
+  any_images : (ts : Trees) → are_plain ts ≡ true → trees_image ts ≡ Some ts
   any_images no_trees h = refl
-  any_images (tree t ts) h = let q = and_parts (is_any t) (are_any ts) h in λ j. next_tree (any_image t q.0 j) (any_images ts q.1 j)
+  any_images (tree t ts) h = let q = and_parts (is_plain t) (are_plain ts) h in λ j. next_tree (any_image t q.0 j) (any_images ts q.1 j)
 
-  any_entries : (es : Entries) → are_any_keyed es ≡ true → entries_image es ≡ Some es
+  any_entries : (es : Entries) → are_plain_keyed es ≡ true → entries_image es ≡ Some es
   any_entries no_entries h = refl
   any_entries (entry k v es) h =
-      let q = and_parts (is_text k) (is_any v && are_any_keyed es) h in
-      let r = and_parts (is_any v) (are_any_keyed es) q.1 in
+      let q = and_parts (is_text k) (is_plain v && are_plain_keyed es) h in
+      let r = and_parts (is_plain v) (are_plain_keyed es) q.1 in
       λ j. next_entry (text_image k q.0 j) (any_image v r.0 j) (any_entries es r.1 j)
 
 none_is : (o : Option Foreign) → is_none o ≡ true → o ≡ None
 none_is None h = refl
 none_is (Some f) h = absurd (cc)
 
-any_taken : (t : Tree) → is_any t ≡ true → taken t (foreign t) ≡ Ok (meaning.tree t)
-any_taken t h = ap (taken t) (none_is (foreign t) (sym (any_foreign t) ∙ h))
+any_taken : (t : Tree) → is_plain t ≡ true → taken t (foreign t) ≡ Ok (meaning.tree t)
+any_taken t h = ap (taken t) (none_is (foreign t) (sym (plain_foreign t) ∙ h))
 
-any_claimed : (t : Tree) → is_any t ≡ true → (w : WireKind) (p : Place) (b : Bool) → claims_at (stands false false) (record { wire = w; place = p; buffered = b }) ≡ true →
+any_claimed : (t : Tree) → is_plain t ≡ true → (w : WireKind) (p : Place) (b : Bool) → claims_at (stands false false) (record { wire = w; place = p; buffered = b }) ≡ true →
     IsBack any_reads (record { wire = w; place = p; buffered = b }) t (meaning.tree t)
 any_claimed t h Compact p b c = (t, refl, any_taken t h)
 any_claimed t h Json Value b c = (t, any_image t h, any_taken t h)
@@ -158,7 +159,7 @@ unfolding any_node
 any_back m c (meaning.tree t) h = any_claimed t h.0 m.wire m.place m.buffered c
 any_back m c _ h = absurd h
 
-any_kind : (t : Tree) → is_any t ≡ true → has all_but_bytes (kind_of t) ≡ true
+any_kind : (t : Tree) → is_plain t ≡ true → has all_but_bytes (kind_of t) ≡ true
 any_kind (bytes s) h = absurd (cc)
 any_kind null h = refl
 any_kind (truth b) h = refl

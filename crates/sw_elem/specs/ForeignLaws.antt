@@ -8,55 +8,9 @@ use Rattle.sw_tree.specs.Tree.{Tree, null, truth, int, text, bytes, list, map, T
 use Rattle.sw_tree.specs.declared.fail.DeError.{DeError}
 use Rattle.sw_elem.specs.Equations.{LawfulReading}
 use Rattle.sw_tree.specs.Proper.{IsNodeTree}
-use Rattle.sw_elem.specs.Foreign.{is_text, is_any, are_any, are_any_keyed, Foreign, further, foreign_key, foreign, foreign_items, foreign_entries, taken, any_reads, number_of, any_spot, IsAny}
-
--- ---- a tree without such a node is one that is held
-
-none_further : (k : ℕ) (o : Option Foreign) → is_none (further k o) ≡ is_none o
-none_further k None = refl
-none_further k (Some f) = refl
-
-none_or : (a b : Option Foreign) → is_none (option_or a b) ≡ (is_none a && is_none b)
-none_or None b = refl
-none_or (Some f) b = refl
-
-text_key : (k : Tree) → is_text k ≡ is_none (foreign_key k)
-text_key (text s) = refl
-text_key null = refl
-text_key (truth b) = refl
-text_key (int n) = refl
-text_key (bytes s) = refl
-text_key (list ts) = refl
-text_key (map es) = refl
-
-mutual
-  pub any_foreign : (t : Tree) → is_any t ≡ is_none (foreign t)
-  any_foreign null = refl
-  any_foreign (truth b) = refl
-  any_foreign (int n) = refl
-  any_foreign (text s) = refl
-  any_foreign (bytes s) = refl
-  any_foreign (list ts) = any_foreign_items ts ∙ sym (none_further 1 (foreign_items ts))
-  any_foreign (map es) = any_foreign_entries es ∙ sym (none_further 1 (foreign_entries es))
-
-  any_foreign_items : (ts : Trees) → are_any ts ≡ is_none (foreign_items ts)
-  any_foreign_items no_trees = refl
-  any_foreign_items (tree t ts) =
-      let behind = further (size t) (foreign_items ts) in
-      (λ j. any_foreign t j && (any_foreign_items ts ∙ sym (none_further (size t) (foreign_items ts))) j) ∙ sym (none_or (foreign t) behind)
-
-  any_foreign_entries : (es : Entries) → are_any_keyed es ≡ is_none (foreign_entries es)
-  any_foreign_entries no_entries = refl
-  any_foreign_entries (entry k v es) =
-      let behind = further (size v) (foreign_entries es) in
-      let values : (is_any v && are_any_keyed es) ≡ is_none (further (size k) (option_or (foreign v) behind)) =
-      (λ j. any_foreign v j && (any_foreign_entries es ∙ sym (none_further (size v) (foreign_entries es))) j)
-      ∙ sym (none_or (foreign v) behind)
-      ∙ sym (none_further (size k) (option_or (foreign v) behind)) in
-      (λ j. text_key k j && values j) ∙ sym (none_or (foreign_key k) (further (size k) (option_or (foreign v) behind)))
-
-pub none_foreign : (t : Tree) → foreign t ≡ None → is_any t ≡ true
-none_foreign t p = any_foreign t ∙ ap is_none p
+use Rattle.sw_tree.specs.Foreign.{Foreign, further, foreign_key, foreign, foreign_items, foreign_entries}
+use Rattle.sw_tree.specs.ForeignLaws.{none_foreign}
+use Rattle.sw_elem.specs.Foreign.{taken, any_reads, number_of, any_spot, IsAny}
 
 -- ---- such a node is one of the tree's
 

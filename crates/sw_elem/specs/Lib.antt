@@ -7,7 +7,6 @@ pub mod Truths
 pub mod Texts
 pub mod Foreign
 pub mod ForeignLaws
-pub mod ForeignSeen
 pub mod Text
 pub mod TextLaws
 pub mod Decimal

@@ -1,27 +1,28 @@
 ghost use Rattle.std.specs.Prelude.{◌≡◌, true};
 ghost use Rattle.sw_tree.specs.Proper.{IsNodeTree};
 ghost use Rattle.sw_tree.specs.ProperLaws.{IsNodeTree-prop};
-ghost use Rattle.sw_elem.specs.Foreign as foreign;
+ghost use Rattle.sw_tree.specs.Foreign as foreign;
 
 use crate::element::Element;
 use crate::facts;
-use crate::foreign::{foreign_in, is_any};
 use crate::serialize::{Deserialize, Serialize};
 use std::alloc::Global;
 use sw_check::facts::Facts;
 use sw_tree::builds::Builds;
 use sw_tree::fail::{DeFail, SerFail};
+use sw_tree::foreign::foreign_in;
 use sw_tree::meant::{Meant, Named};
 use sw_tree::mode::Mode;
 use sw_tree::node::Node;
 use sw_tree::skipped::Skipped;
 use sw_tree::view::View;
+use sw_tree::write::write_node;
 
 /// A tree whose keys are all texts and that has no byte string: whatever a JSON text may say.
 #[derive(Drop)]
 pub struct Any {
     node: Node,
-    ghost held: { foreign.is_any node ≡ true },
+    ghost held: { foreign.is_plain node ≡ true },
     ghost bounded: { IsNodeTree node } by { IsNodeTree-prop node },
 }
 
@@ -33,11 +34,11 @@ impl Any {
     pub fn new(node: Node) -> Result<Any, Node>
         ensures { MatchResult
             result
-            (λ a. (a.node ≡ node) × (foreign.is_any node ≡ true))
-            (λ n. (n ≡ node) × (foreign.is_any node ≡ false)) }
+            (λ a. (a.node ≡ node) × (foreign.is_plain node ≡ true))
+            (λ n. (n ≡ node) × (foreign.is_plain node ≡ false)) }
     {
         let _kind = node.kind();
-        if is_any(&node) {
+        if node.is_plain() {
             Ok(Any { node })
         } else {
             Err(node)
@@ -73,7 +74,7 @@ impl Serialize for Any {
     ghost writes = { any_writes };
 
     fn write<B: Builds>(&self, _alloc: Global, out: &mut B, _mode: Mode) -> Result<(), SerFail> {
-        out.node(&self.node)
+        write_node(out, &self.node)
     }
 }
 

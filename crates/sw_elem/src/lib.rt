@@ -6,7 +6,6 @@ mod classes;
 mod digits;
 pub mod element;
 pub mod facts;
-mod foreign;
 mod key_place;
 pub mod laws;
 mod leaf_texts;

@@ -4,8 +4,6 @@ pub mod ReadQuoted
 pub mod Standing
 pub mod Stands
 pub mod Pushing
-pub mod Children
-pub mod Views
 pub mod Runs
 pub mod Stops
 pub mod Keeping

@@ -11,9 +11,8 @@ use crate::leaf::{
     append, append_byte, push_bool, push_bool_key, push_bytes, push_number, push_number_key,
     push_text,
 };
-use crate::print::{push_key, push_node};
 use crate::turn::Turn;
-use sw_tree::{Node, PrintError, Whole};
+use sw_tree::{PrintError, Whole};
 
 /// Appends what stands in front of the next part.
 #[inline]
@@ -130,24 +129,6 @@ pub(crate) fn put_bytes(out: &mut Vec<u8>, turn: Turn, value: &[u8]) -> Result<(
 {
     separate(out, turn)?;
     bytes_piece(out, turn, value)
-}
-
-fn node_piece(out: &mut Vec<u8>, turn: Turn, value: &Node) -> Result<(), PrintError>
-    ensures { IsPushed result out.old.items out.new.items (piece turn value.now) }
-{
-    if turn.is_key() {
-        push_key(out, value)
-    } else {
-        push_node(out, value)
-    }
-}
-
-/// Appends the node's whole tree.
-pub(crate) fn put_node(out: &mut Vec<u8>, turn: Turn, value: &Node) -> Result<(), PrintError>
-    ensures { IsPushed result out.old.items out.new.items (joined (Some (separator turn)) (piece turn value.now)) }
-{
-    separate(out, turn)?;
-    node_piece(out, turn, value)
 }
 
 #[inline]

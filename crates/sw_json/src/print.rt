@@ -1,17 +1,12 @@
 //! The text of a node.
+#![tactic(auto, using(crate::proofs::Finishing::finishing))]
 
-ghost use Rattle.std.specs.Prelude.{◌≡◌};
-ghost use Rattle.sw_tree.specs.Tree.{list, map, trees, entries};
 ghost use Rattle.sw_tree.specs.Wires.{IsPrinted};
-ghost use Rattle.sw_json.specs.Text.{json_text, key_text};
-ghost use Rattle.sw_json.specs.Pushed.{IsPushed, entry_text, more_items_text, more_entries_text};
+ghost use Rattle.sw_json.specs.Text.{json_text};
 
-use crate::leaf::{
-    append, push_bool, push_bool_key, push_bytes, push_number, push_number_key, push_text,
-};
-use crate::print_view::push_view;
+use crate::writer::TextWriter;
 use std::alloc::Global;
-use sw_tree::{Content, Node, PrintError};
+use sw_tree::{Node, PrintError, SerFail, write_node};
 
 /// The compact JSON text of the tree's image (RFC 8259): no whitespace, numbers in decimal, and in texts only `"`,
 /// `\` and the characters below U+0020 escaped, by `\b`, `\f`, `\n`, `\r` and `\t` where there is such an escape,
@@ -21,101 +16,11 @@ use sw_tree::{Content, Node, PrintError};
 pub fn print(alloc: Global, node: &Node) -> Result<Vec<u8>, PrintError>
     ensures { IsPrinted result (json_text node.now) }
 {
-    let mut out = Vec::new(alloc);
-    push_node(&mut out, node)?;
-    Ok(out)
-}
-
-/// The same, appended.
-#[cycle(print)]
-pub(crate) fn push_node(out: &mut Vec<u8>, node: &Node) -> Result<(), PrintError>
-    ensures { IsPushed result out.old.items out.new.items (json_text node.now) }
-{
-    match node.content() {
-        Content::Null => append(out, b"null"),
-        Content::Bool(value) => push_bool(out, value),
-        Content::Int(number) => push_number(out, number),
-        Content::Text(text) => push_text(out, text),
-        Content::Bytes(bytes) => push_bytes(out, bytes),
-        Content::List(items) => push_list(out, items),
-        Content::Map(entries) => push_map(out, entries),
-        Content::Document(view) => push_view(out, view),
-    }
-}
-
-#[cycle(print)]
-fn push_list(out: &mut Vec<u8>, items: &[Node]) -> Result<(), PrintError>
-    ensures { IsPushed result out.old.items out.new.items (json_text (list (trees items.now))) }
-{
-    append(out, b"[")?;
-    match items.split_first() {
-        None => append(out, b"]"),
-        Some((first, rest)) => {
-            push_node(out, first)?;
-            push_more_items(out, rest)
-        }
-    }
-}
-
-/// Appends the items behind the first, each behind a comma, and the closing bracket.
-#[cycle(print)]
-fn push_more_items(out: &mut Vec<u8>, items: &[Node]) -> Result<(), PrintError>
-    ensures { IsPushed result out.old.items out.new.items (more_items_text items.now) }
-{
-    for item in items {
-        append(out, b",")?;
-        push_node(out, item)?;
-    }
-    append(out, b"]")
-}
-
-#[cycle(print)]
-fn push_map(out: &mut Vec<u8>, pairs: &[(Node, Node)]) -> Result<(), PrintError>
-    ensures { IsPushed result out.old.items out.new.items (json_text (map (entries pairs.now))) }
-{
-    append(out, b"{")?;
-    match pairs.split_first() {
-        None => append(out, b"}"),
-        Some((first, rest)) => {
-            push_entry(out, &first.0, &first.1)?;
-            push_more_entries(out, rest)
-        }
-    }
-}
-
-/// Appends the entries behind the first, each behind a comma, and the closing brace.
-#[cycle(print)]
-fn push_more_entries(out: &mut Vec<u8>, pairs: &[(Node, Node)]) -> Result<(), PrintError>
-    ensures { IsPushed result out.old.items out.new.items (more_entries_text pairs.now) }
-{
-    for (key, value) in pairs {
-        append(out, b",")?;
-        push_entry(out, key, value)?;
-    }
-    append(out, b"}")
-}
-
-#[cycle(print)]
-fn push_entry(out: &mut Vec<u8>, key: &Node, value: &Node) -> Result<(), PrintError>
-    ensures { IsPushed result out.old.items out.new.items (entry_text key.now value.now) }
-{
-    push_key(out, key)?;
-    append(out, b":")?;
-    push_node(out, value)
-}
-
-pub(crate) fn push_key(out: &mut Vec<u8>, key: &Node) -> Result<(), PrintError>
-    ensures { IsPushed result out.old.items out.new.items (key_text key.now) }
-{
-    if let Some(text) = key.as_text() {
-        return push_text(out, text);
-    }
-    if let Some(number) = key.as_int() {
-        return push_number_key(out, number);
-    }
-    match key.as_bool() {
-        Some(value) => push_bool_key(out, value),
-        None => Err(PrintError::Key),
+    let mut writer = TextWriter::new(alloc, 0)?;
+    match write_node(&mut writer, node) {
+        Ok(()) => writer.finish(),
+        Err(SerFail::Memory) => Err(PrintError::Memory),
+        Err(SerFail::Unwritable(_)) => unreachable!(),
     }
 }
 

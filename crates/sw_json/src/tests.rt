@@ -1,7 +1,7 @@
 use crate::wire::JsonWire;
 use crate::writer::TextWriter;
 use std::alloc::Global;
-use sw_tree::{Builds, Node, PrintError, SerError, SerFail, View, Whole, Wire};
+use sw_tree::{Builds, Node, PrintError, SerError, SerFail, View, Whole, Wire, write_node};
 
 /// How many entries a map has, whether each key is that text, and how many items the first
 /// two values have.
@@ -141,11 +141,11 @@ fn kept(alloc: Global, text: &[u8]) -> Option<Node> {
 /// A kept list in a list, and behind it as the value of a key.
 fn put_node_inside(out: &mut TextWriter, node: &Node) -> Result<(), SerFail> {
     out.open_list(3)?;
-    out.node(node)?;
-    out.node(&Node::null())?;
+    write_node(out, node)?;
+    write_node(out, &Node::null())?;
     out.open_map(1)?;
-    out.node(&Node::int(Whole::from_i128(-5)))?;
-    out.node(node)?;
+    write_node(out, &Node::int(Whole::from_i128(-5)))?;
+    write_node(out, node)?;
     out.close()?;
     out.close()
 }
@@ -162,7 +162,7 @@ fn a_node_stands_as_it_prints(rt: HostRuntime) {
         return;
     };
     assert!(rt; put_node_inside(&mut inside, &node).is_ok());
-    assert!(rt; alone.node(&node).is_ok());
+    assert!(rt; write_node(&mut alone, &node).is_ok());
     let text = JsonWire::finish(rt.alloc(), inside);
     let wanted: &[u8] = b"[[{\"a\":[]},\"\\n\"],null,{\"-5\":[{\"a\":[]},\"\\n\"]}]";
     assert!(rt; matches!(&text, Ok(bytes) if bytes.as_slice() == wanted));
@@ -188,7 +188,7 @@ fn levels_of_a_node_count_in_a_list(rt: HostRuntime) {
         return;
     };
     assert!(rt; open_lists(&mut out, 2).is_ok());
-    assert!(rt; out.node(&node).is_ok());
+    assert!(rt; write_node(&mut out, &node).is_ok());
     assert!(rt; out.close().is_ok());
     assert!(rt; matches!(out.close(), Err(SerFail::Unwritable(SerError::TooDeep))));
 }
@@ -196,7 +196,7 @@ fn levels_of_a_node_count_in_a_list(rt: HostRuntime) {
 /// A map whose key is a list.
 fn put_list_key(out: &mut TextWriter, node: &Node) -> Result<(), SerFail> {
     out.open_map(1)?;
-    out.node(node)?;
+    write_node(out, node)?;
     out.null()?;
     out.close()
 }

@@ -7,7 +7,7 @@ ghost use Rattle.sw_json.specs.Kept.{IsKept};
 
 use crate::level::Level;
 use crate::piece::{
-    put_bool, put_bytes, put_ending, put_int, put_int_text, put_node, put_null, put_open, put_text,
+    put_bool, put_bytes, put_ending, put_int, put_int_text, put_null, put_open, put_text,
 };
 use crate::turn::Turn;
 use std::alloc::{AllocError, Global};
@@ -154,13 +154,9 @@ impl Builds for TextWriter {
         Ok(())
     }
 
-    fn node(&mut self, value: &Node) -> Result<(), SerFail> {
-        let pushed = put_node(&mut self.out, self.top.turn, value);
-        keep(&mut self.lost, pushed)?;
-        if self.top.turn.is_inside() {
-            self.top = self.top.with(value.depth());
-        }
-        Ok(())
+    /// A text takes no node whole.
+    fn whole(&mut self, _value: &Node) -> Result<bool, SerFail> {
+        Ok(false)
     }
 
     fn open_list(&mut self, _items: usize) -> Result<(), SerFail> {

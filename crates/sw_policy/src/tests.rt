@@ -7,13 +7,13 @@ use sw_core::display::DisplayFromStr;
 use sw_core::formats::{PreferMany, PreferOne};
 use sw_core::same::Same;
 use sw_tree::builder::DocBuilder;
-use sw_tree::content::Content;
 use sw_tree::doc::Doc;
 use sw_tree::fail::{DeError, DeFail, DeKind, Refusal};
 use sw_tree::meant::Meant;
-use sw_tree::mode::{Mode, WireKind};
+use sw_tree::mode::{Kind, Mode, WireKind};
 use sw_tree::node::Node;
 use sw_tree::skipped::Skipped;
+use sw_tree::view::View;
 use sw_tree::whole::Whole;
 
 /// That text, or 7 where there is none.
@@ -212,6 +212,11 @@ fn one_text_or_a_list_is_read(rt: HostRuntime) -> Result<(), AllocError> {
     Ok(())
 }
 
+/// The first item, where it is a text.
+fn first_text<'a>(view: View<'a>) -> Option<&'a str> {
+    view.items()?.next()?.as_text()
+}
+
 #[test]
 fn one_text_alone_is_written_bare_where_one_is_preferred(
     rt: HostRuntime,
@@ -221,15 +226,12 @@ fn one_text_alone_is_written_bare_where_one_is_preferred(
     let bare = written::<Vec<String>, Names>(alloc, &one)?;
     assert!(rt; bare.as_text() == Some("x"));
     let listed = written::<Vec<String>, ListedNames>(alloc, &one)?;
-    match listed.content() {
-        Content::List([item]) => assert!(rt; item.as_text() == Some("x")),
-        _ => assert!(rt; false),
-    }
+    let document = Doc::from_node(alloc, &listed)?;
+    assert!(rt; document.view().len() == 1);
+    assert!(rt; first_text(document.view()) == Some("x"));
     let none = written::<Vec<String>, Names>(alloc, &Vec::new(alloc))?;
-    match none.content() {
-        Content::List(items) => assert!(rt; items.is_empty()),
-        _ => assert!(rt; false),
-    }
+    assert!(rt; none.kind() == Kind::List);
+    assert!(rt; Doc::from_node(alloc, &none)?.view().len() == 0);
     Ok(())
 }
 

@@ -2,6 +2,7 @@ pub mod BuilderLemmas
 pub mod CellLemmas
 pub mod Children
 pub mod Fitting
+pub mod Foreigns
 pub mod Gained
 pub mod Gathered
 pub mod GrowLemmas
@@ -10,6 +11,7 @@ pub mod KindsLemmas
 pub mod Lists
 pub mod NumberLemmas
 pub mod PathLemmas
+pub mod Plains
 pub mod Remaining
 pub mod Rows
 pub mod Shorts

@@ -23,6 +23,13 @@ IsBuilt (Ok _) r new = r ≡ Ok new
 IsBuilt (Err (ser.Unwritable e)) r new = r ≡ Err e
 IsBuilt (Err ser.Memory) r new = Unit {0}
 
+-- where it is taken that is what is built, and otherwise all is as it was; or want of memory
+abbrev pub IsTaken : {S : Type 0} → Result Bool SerFail → S → S → S → Type 0
+IsTaken (Ok true) with_it old new = new ≡ with_it
+IsTaken (Ok false) with_it old new = new ≡ old
+IsTaken (Err (ser.Unwritable e)) with_it old new = ⊥
+IsTaken (Err ser.Memory) with_it old new = Unit {0}
+
 -- with a tree put in, where there is one
 abbrev pub with_put : {S : Type 0} → (Tree → S → S) → Result Tree SerError → S → Result S SerError
 with_put put r s = bind r (λ t. Ok (put t s))

@@ -9,6 +9,8 @@ pub mod ProperLaws
 pub mod Short
 pub mod NodeTrees
 pub mod TreeCode
+pub mod Foreign
+pub mod ForeignLaws
 pub mod NodeShape
 pub mod NodeFalls
 pub mod Kinds
@@ -22,6 +24,7 @@ pub mod Doc
 pub mod Seen
 pub mod View
 pub mod Content
+pub mod ForeignSeen
 pub mod Path
 pub mod PathText
 pub mod Placed

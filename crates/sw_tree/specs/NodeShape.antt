@@ -1,6 +1,7 @@
 -- The tree of one level, whose children are already seen as trees.
-use Rattle.std.specs.Prelude.{ℕ, ◌≡◌, string_bytes}
+use Rattle.std.specs.Prelude.{ℕ, ◌≡◌, Bool, true, false, string_bytes}
 use Rattle.sw_tree.specs.Tree.{Tree, null, truth, int, text, bytes, list, map, trees, entries, depth}
+use Rattle.sw_tree.specs.Foreign.{are_plain, are_plain_keyed}
 use Rattle.sw_tree.specs.declared.node.Shape.{Shape}
 use Rattle.sw_tree.specs.declared.node.Shape.TheVariants as shape
 
@@ -24,3 +25,14 @@ Counts (shape.Bytes s) n = n ≡ 1
 Counts (shape.List v) n = n ≡ depth (list (trees v.items))
 Counts (shape.Map v) n = n ≡ depth (map (entries v.items))
 Counts (shape.Kept k) n = Unit {0}
+
+-- that a mark says whether the tree is plain, but where a document is kept, which isn't looked through ahead
+abbrev pub IsMarked : Shape → Bool → Type 0
+IsMarked shape.Null b = b ≡ true
+IsMarked (shape.Bool c) b = b ≡ true
+IsMarked (shape.Int z) b = b ≡ true
+IsMarked (shape.Text s) b = b ≡ true
+IsMarked (shape.Bytes s) b = b ≡ false
+IsMarked (shape.List v) b = b ≡ are_plain (trees v.items)
+IsMarked (shape.Map v) b = b ≡ are_plain_keyed (entries v.items)
+IsMarked (shape.Kept k) b = Unit {0}

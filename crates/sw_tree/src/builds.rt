@@ -1,6 +1,5 @@
 use crate::fail::SerFail;
 use crate::node::Node;
-use crate::view::View;
 use crate::whole::Whole;
 
 /// What is built node by node: a list or map is opened, its parts are put in, a map's keys and values
@@ -11,15 +10,14 @@ use crate::whole::Whole;
 /// list in, unless it is too deep; and so it is with a map. So what is too deep is told where a list or map
 /// closes, after its parts.
 ///
-/// After a refusal or want of memory nothing is said of what is built.
+/// After a refusal or want of memory nothing is said of what is built. A whole node is put in by `write_node`.
 pub trait Builds {
     ghost use Rattle.std.specs.Prelude.{Bool, true, false, Result, Ok, Err};
     ghost use Rattle.std.specs.Fmt.{signed_decimal};
     ghost use Rattle.sw_tree.specs.Tree as tree;
     ghost use Rattle.sw_tree.specs.Tree.{Tree};
     ghost use Rattle.sw_tree.specs.declared.fail.SerError.{SerError};
-    ghost use Rattle.sw_tree.specs.View.{tree_of};
-    ghost use Rattle.sw_tree.specs.Building.{IsBuilt, BuildsLists, BuildsMaps};
+    ghost use Rattle.sw_tree.specs.Building.{IsBuilt, IsTaken, BuildsLists, BuildsMaps};
 
     /// With that tree put in.
     ghost put: { Tree → Self → Self };
@@ -49,13 +47,10 @@ pub trait Builds {
     fn bytes(&mut self, value: &[u8]) -> Result<(), SerFail>
         ensures { IsBuilt result (Ok (put (tree.bytes value.now) self.old)) self.new };
 
-    /// Puts in the node's tree; `write_node` does it node by node.
-    fn node(&mut self, value: &Node) -> Result<(), SerFail>
-        ensures { IsBuilt result (Ok (put value.now self.old)) self.new };
-
-    /// Puts in the view's tree; `write_view` does it node by node.
-    fn view(&mut self, value: &View<'_>) -> Result<(), SerFail>
-        ensures { IsBuilt result (Ok (put (tree_of value.now) self.old)) self.new };
+    /// Takes the node whole, if that is cheaper here than part by part: `true` where its tree is put in, `false` where
+    /// nothing is.
+    fn whole(&mut self, value: &Node) -> Result<bool, SerFail>
+        ensures { IsTaken result (put value.now self.old) self.old self.new };
 
     /// Opens a list. That it will have so many items is advice.
     fn open_list(&mut self, items: usize) -> Result<(), SerFail>

@@ -10,6 +10,7 @@ mod containers;
 mod content;
 pub mod doc;
 pub mod fail;
+pub mod foreign;
 mod from_node;
 mod hashed;
 pub mod images;
@@ -44,6 +45,7 @@ pub use doc::Doc;
 pub use fail::{
     DeError, DeFail, DeKind, PrintError, Refusal, SerError, SerFail, TooDeep, WireError,
 };
+pub use foreign::foreign_in;
 pub use images::image;
 pub use kinds::Kinds;
 pub use meant::{Meant, Named};

@@ -1,12 +1,14 @@
-#![tactic(auto, using(crate::proofs::Lists::lists))]
+#![tactic(auto, using(crate::proofs::Plains::node_rules))]
 
 ghost use Rattle.std.specs.Prelude.{◌≡◌, ◌<◌, ◌≤◌, IfOk, string_bytes};
 ghost use Rattle.sw_tree.specs.Tree.{null, truth, int, text, bytes, list, map, trees, entries, depth, kind_of, trees_depth, entries_depth};
 ghost use Rattle.sw_tree.specs.Proper.{IsProper, AreProper, AreProperEntries};
 ghost use Rattle.sw_tree.specs.Short.{IsShort, AreShort, AreShortEntries};
+ghost use Rattle.sw_tree.specs.Foreign as foreign;
 
 use crate::content::Content;
 use crate::fail::TooDeep;
+use crate::foreign::foreign_in;
 use crate::kept::Kept;
 use crate::levels::levels_of;
 use crate::mode::Kind;
@@ -24,6 +26,7 @@ use std::sync::Arc;
 pub struct Node {
     shape: Shape,
     levels: u8,
+    plain: bool,
 }
 
 #[cycle(node)]
@@ -49,13 +52,13 @@ impl Model for Node {
 
     ghost coded = { coded_tree };
 
-    ghost use Rattle.sw_tree.specs.NodeShape.{shape_tree, Counts};
+    ghost use Rattle.sw_tree.specs.NodeShape.{shape_tree, Counts, IsMarked};
     ghost use Rattle.sw_tree.specs.Proper.{IsProper};
     ghost use Rattle.sw_tree.specs.Short.{IsShort};
 
     ghost view = { λ a. shape_tree a.shape };
 
-    ghost invariant = { λ a. Counts a.shape a.levels × (depth (shape_tree a.shape) ≤ 128) × IsProper (shape_tree a.shape) × IsShort (shape_tree a.shape) };
+    ghost invariant = { λ a. Counts a.shape a.levels × IsMarked a.shape a.plain × (depth (shape_tree a.shape) ≤ 128) × IsProper (shape_tree a.shape) × IsShort (shape_tree a.shape) };
 
     ghost size = { depth };
 
@@ -77,6 +80,7 @@ impl Node {
         Node {
             shape: Shape::Null,
             levels: 0,
+            plain: true,
         }
     }
 
@@ -87,6 +91,7 @@ impl Node {
         Node {
             shape: Shape::Bool(value),
             levels: 0,
+            plain: true,
         }
     }
 
@@ -97,6 +102,7 @@ impl Node {
         Node {
             shape: Shape::Int(value),
             levels: 0,
+            plain: true,
         }
     }
 
@@ -108,6 +114,7 @@ impl Node {
         Node {
             shape: Shape::Text(value),
             levels: 0,
+            plain: true,
         }
     }
 
@@ -119,6 +126,7 @@ impl Node {
         Node {
             shape: Shape::Bytes(value),
             levels: 1,
+            plain: false,
         }
     }
 
@@ -132,10 +140,12 @@ impl Node {
     {
         let _count = items.len();
         let most = greatest(items.as_slice());
+        let plain = are_plain(items.as_slice());
         if most < 128 {
             Ok(Node {
                 shape: Shape::List(items),
                 levels: most + 1,
+                plain,
             })
         } else {
             Err(TooDeep)
@@ -152,10 +162,12 @@ impl Node {
     {
         let _count = pairs.len();
         let most = greatest_entry(pairs.as_slice());
+        let plain = are_plain_keyed(pairs.as_slice());
         if most < 128 {
             Ok(Node {
                 shape: Shape::Map(pairs),
                 levels: most + 1,
+                plain,
             })
         } else {
             Err(TooDeep)
@@ -192,6 +204,7 @@ impl Node {
         Ok(Node {
             shape: Shape::Kept(Arc::new(alloc, kept)?),
             levels: 0,
+            plain: true,
         })
     }
 
@@ -209,14 +222,17 @@ impl Node {
             Shape::List(items) => Ok(Node {
                 shape: Shape::List(copies(alloc, items.as_slice())?),
                 levels: self.levels,
+                plain: self.plain,
             }),
             Shape::Map(pairs) => Ok(Node {
                 shape: Shape::Map(entry_copies(alloc, pairs.as_slice())?),
                 levels: self.levels,
+                plain: self.plain,
             }),
             Shape::Kept(kept) => Ok(Node {
                 shape: Shape::Kept(kept.clone()?),
                 levels: self.levels,
+                plain: self.plain,
             }),
         }
     }
@@ -231,6 +247,16 @@ impl Node {
         match &self.shape {
             Shape::Kept(kept) => levels_of(kept.view()),
             _ => self.levels,
+        }
+    }
+
+    /// Whether its keys are all texts and it has no byte string, so that JSON gives it back as it is.
+    pub fn is_plain(&self) -> bool
+        ensures { result ≡ foreign.is_plain self.now }
+    {
+        match &self.shape {
+            Shape::Kept(kept) => foreign_in(kept.view()).is_none(),
+            _ => self.plain,
         }
     }
 
@@ -340,6 +366,36 @@ fn greatest_entry(items: &[(Node, Node)]) -> u8
         most = most.max(key.depth()).max(value.depth());
     }
     most
+}
+
+/// Whether all of these are plain.
+fn are_plain(items: &[Node]) -> bool
+    ensures { result ≡ foreign.are_plain (trees items.now) }
+{
+    for item in items {
+        if !item.is_plain() {
+            return false;
+        }
+    }
+    true
+}
+
+/// Whether all of these keys are texts, and their values plain.
+fn are_plain_keyed(pairs: &[(Node, Node)]) -> bool
+    ensures { result ≡ foreign.are_plain_keyed (entries pairs.now) }
+{
+    for (key, value) in pairs {
+        if !is_text(key) || !value.is_plain() {
+            return false;
+        }
+    }
+    true
+}
+
+fn is_text(node: &Node) -> bool
+    ensures { result ≡ foreign.is_text node.now }
+{
+    node.kind() == Kind::Text
 }
 
 /// Equal items.

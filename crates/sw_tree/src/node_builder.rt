@@ -8,7 +8,6 @@ ghost use Rattle.sw_tree.specs.Building.{within, IsBuilt, IsMade};
 use crate::builds::Builds;
 use crate::fail::{SerError, SerFail};
 use crate::node::Node;
-use crate::view::View;
 use crate::whole::Whole;
 use itoa::Buffer;
 use std::alloc::{AllocError, Global};
@@ -170,18 +169,13 @@ impl Builds for NodeBuilder {
         push(&mut self.top.children, Node::bytes(bytes))
     }
 
-    fn node(&mut self, value: &Node) -> Result<(), SerFail> {
+    /// A copy of a document that is kept is the document, so a node is taken whole.
+    fn whole(&mut self, value: &Node) -> Result<bool, SerFail> {
         let Ok(copy) = value.copy(self.alloc) else {
             return Err(SerFail::Memory);
         };
-        push(&mut self.top.children, copy)
-    }
-
-    fn view(&mut self, value: &View<'_>) -> Result<(), SerFail> {
-        let Ok(copy) = value.to_node(self.alloc) else {
-            return Err(SerFail::Memory);
-        };
-        push(&mut self.top.children, copy)
+        push(&mut self.top.children, copy)?;
+        Ok(true)
     }
 
     fn open_list(&mut self, items: usize) -> Result<(), SerFail> {

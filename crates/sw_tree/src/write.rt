@@ -56,9 +56,19 @@ fn write_entries<B: Builds>(out: &mut B, count: usize, pairs: Entries<'_>) -> Re
     out.close()
 }
 
-/// Puts the node's tree in, node by node down to what is kept as a document.
-#[cycle(write_node)]
+/// Puts the node's tree in: whole where it is taken so, and else node by node.
 pub fn write_node<B: Builds>(out: &mut B, node: &Node) -> Result<(), SerFail>
+    ensures { IsPut B.put result (Ok node.now) out.old out.new }
+{
+    if out.whole(node)? {
+        return Ok(());
+    }
+    write_parts(out, node)
+}
+
+/// Puts the node's tree in, node by node.
+#[cycle(write_parts)]
+fn write_parts<B: Builds>(out: &mut B, node: &Node) -> Result<(), SerFail>
     ensures { IsPut B.put result (Ok node.now) out.old out.new }
 {
     match node.content() {
@@ -69,11 +79,11 @@ pub fn write_node<B: Builds>(out: &mut B, node: &Node) -> Result<(), SerFail>
         Content::Bytes(bytes) => out.bytes(bytes),
         Content::List(items) => write_nodes(out, node, items),
         Content::Map(pairs) => write_pairs(out, node, pairs),
-        Content::Document(view) => out.view(&view),
+        Content::Document(view) => write_view(out, &view),
     }
 }
 
-#[cycle(write_node)]
+#[cycle(write_parts)]
 fn write_nodes<B: Builds>(out: &mut B, node: &Node, items: &[Node]) -> Result<(), SerFail>
     requires { node.now ≡ list (trees items.now) }
     ensures { IsPut B.put result (Ok (list (trees items.now))) out.old out.new }
@@ -81,12 +91,12 @@ fn write_nodes<B: Builds>(out: &mut B, node: &Node, items: &[Node]) -> Result<()
     let _kind = node.kind();
     out.open_list(items.len())?;
     for item in items {
-        write_node(out, item)?;
+        write_parts(out, item)?;
     }
     out.close()
 }
 
-#[cycle(write_node)]
+#[cycle(write_parts)]
 fn write_pairs<B: Builds>(
     out: &mut B,
     node: &Node,
@@ -98,8 +108,8 @@ fn write_pairs<B: Builds>(
     let _kind = node.kind();
     out.open_map(pairs.len())?;
     for (key, value) in pairs {
-        write_node(out, key)?;
-        write_node(out, value)?;
+        write_parts(out, key)?;
+        write_parts(out, value)?;
     }
     out.close()
 }

@@ -1,10 +1,10 @@
--- The refusal of the first node that an `Any` doesn't hold, at its place.
+-- The refusal of the first node that is a byte string, or a key that is no text, at its place.
 use Rattle.std.specs.Prelude.{List, [], ◌∷◌, Option, None, option_map}
 use Rattle.std.specs.Option.{option_or}
 use Rattle.sw_tree.specs.Seen.{Seen, place_at}
 use Rattle.sw_tree.specs.declared.fail.DeError.TheVariants as fail
 use Rattle.sw_tree.specs.declared.fail.Refusal.{Refusal}
-use Rattle.sw_elem.specs.Foreign.{Foreign, foreign, foreign_key}
+use Rattle.sw_tree.specs.Foreign.{Foreign, foreign, foreign_key}
 
 abbrev pub refusal_of : Seen → Foreign → Refusal
 refusal_of s f = record { error = fail.InvalidType f.kind; place = place_at s f.number }

@@ -1,7 +1,7 @@
 use Rattle.std.proofs.Common.{◌≡◌, ◌+◌, ◌*◌, false, true, drop}
 use Rattle.sw_tree.specs.Tree.{depth, trees, trees_depth, entries, entries_depth, by_turns}
 use Rattle.sw_tree.specs.Building.{puts}
-use Rattle.sw_tree.proofs.write.+write_node.Given as goal
+use Rattle.sw_tree.proofs.write.+write_parts.Given as goal
 
 abbrev pub invariant-write_nodes-loop-item : goal.invariant-write_nodes-loop-item
 invariant-write_nodes-loop-item g l =
@@ -11,8 +11,8 @@ abbrev pub invariant-write_pairs-loop-key : goal.invariant-write_pairs-loop-key
 invariant-write_pairs-loop-key g l =
     puts g.B.Builds.put (by_turns l.pairs) (g.B.Builds.opened true l.fn.out) ≡ puts g.B.Builds.put (by_turns (drop l.key-index l.pairs)) l.out
 
-abbrev pub decreases-write_node : goal.decreases-write_node
-decreases-write_node g l = 2 * depth l.node.now
+abbrev pub decreases-write_parts : goal.decreases-write_parts
+decreases-write_parts g l = 2 * depth l.node.now
 
 abbrev pub decreases-write_nodes : goal.decreases-write_nodes
 decreases-write_nodes g l = 2 * trees_depth (trees l.items.now) + 1
