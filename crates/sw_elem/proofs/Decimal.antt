@@ -1,14 +1,18 @@
 -- What std's parse of a whole number says, in the words of a text form.
-use Rattle.std.specs.Prelude.{ℕ, ◌<◌, ◌≤◌, ◌^◌, ◌≡◌, ◌&&◌, ℤ, List, Bool, true, false, Some, None, FitsSigned, cond}
-use Rattle.std.proofs.Common.{refl, sym, subst, arith, ap}
+use Rattle.std.specs.Prelude.{ℕ, ◌<◌, ◌≤◌, ◌^◌, ◌≡◌, ◌&&◌, ℤ, List, ◌∷◌, Bool, true, false, Some, None, FitsSigned, cond, pos, neg_ℤ, slice_index}
+use Rattle.std.proofs.Common.{refl, sym, subst, arith, ap, ◌∙◌, rules, eqb, inl, inr}
 use Rattle.std.specs.Bool.{Decides}
+use Rattle.std.specs.List.{list_all}
 use Rattle.std.specs.Int.Signed.{mag}
 use Rattle.std.specs.Int.{w128}
 use Rattle.std.specs.Str.Parse.{IsNumeral, digits_value, without_leading_plus, without_leading_sign, signed_digits_value}
+use Rattle.std.proofs.lemmas.Bool.Decides.{eqb_tells}
+use Rattle.std.proofs.lemmas.Str.Parse.{IsNumeralModel, numerals_by_fold, not_in_digits, without_leading_plus_none}
 use Rattle.sw_tree.specs.Meaning.{number}
+use Rattle.sw_tree.specs.Number.{is_digit, value_from, value_of, AreFew}
 use Rattle.sw_tree.specs.Meant.{unsigned_meaning}
 use Rattle.sw_elem.specs.Numbers.{is_within}
-use Rattle.sw_elem.specs.Decimal.{is_numeral, is_number_below, unsigned_parses, signed_parses}
+use Rattle.sw_elem.specs.Decimal.{is_numeral, is_number_below, unsigned_parses, signed_parses, IsSignedNumeral}
 use Rattle.sw_elem.specs.DecimalLaws.{is_number_below-decides, is_numeral-decides, is_within-decides}
 
 false_where_not : {P : Type 0} (b : Bool) → Decides b P → ¬ P → b ≡ false
@@ -59,3 +63,48 @@ signed_parses-None limit s most h =
         absurd (h ((is_numeral-decides (without_leading_sign s)).0 p, record { sfits = omega arith }))
     by true false p q = refl
     by false b p q = refl
+
+-- ---- digits by the words of a number's spelling
+
+-- those digits, as std names them
+spelled : IsNumeralModel (λ ds. list_all is_digit ds ≡ true) value_of
+unfolding is_digit
+spelled = numerals_by_fold (λ ds. list_all is_digit ds ≡ true) (search rules) value_from (search rules)
+
+eqb_false : (a b : ℕ) → ¬ (a ≡ b) → eqb a b ≡ false
+eqb_false a b h = elim (eqb_tells a b) [ inl y ↦ absurd (h y.1) | inr n ↦ n.0 ]
+
+few-numeral : (ds : List ℕ) → AreFew ds → IsNumeral 10 ds
+few-numeral ds h = (h.some, spelled.to ds h.digits)
+
+few-value : (ds : List ℕ) → AreFew ds → value_of ds ≡ digits_value 10 ds
+few-value ds h = spelled.same ds (spelled.to ds h.digits)
+
+few-plain : (ds : List ℕ) → AreFew ds → without_leading_plus ds ≡ ds
+few-plain ds h = without_leading_plus_none ds (not_in_digits spelled ds 43 h.digits (λ r. omega arith) 0 h.some)
+
+few-not_minus : (ds : List ℕ) → AreFew ds → slice_index ds 0 ≡ 45 → ⊥
+few-not_minus ds h = not_in_digits spelled ds 45 h.digits (λ r. omega arith) 0 h.some
+
+pub few-Some : (limit n : ℕ) (s : List ℕ) → AreFew s → n ≡ value_of s → n < limit → unsigned_parses limit s ≡ Some (unsigned_meaning n)
+few-Some limit n s h e w =
+    let plain = sym (few-plain s h) in
+    unsigned_parses-Some limit n s (subst (IsNumeral 10) plain (few-numeral s h)) (e ∙ few-value s h ∙ ap (digits_value 10) plain) w
+
+pub few-beyond : (limit n : ℕ) (s : List ℕ) → AreFew s → n ≡ value_of s → limit ≤ n → unsigned_parses limit s ≡ None
+few-beyond limit n s h e w =
+    let is : n ≡ digits_value 10 (without_leading_plus s) = e ∙ few-value s h ∙ ap (digits_value 10) (sym (few-plain s h)) in
+    unsigned_parses-None limit s (λ k. omega (arith, k.1, is, w))
+
+-- digits with no sign, and digits behind a minus
+pub few-plain_signed : (s : List ℕ) (n : ℕ) (z : ℤ) → AreFew s → n ≡ value_of s → z ≡ pos n → IsSignedNumeral s z
+few-plain_signed s n z h e k =
+    let no = eqb_false (slice_index s 0) 45 (few-not_minus s h) in
+    let plain = sym (few-plain s h) in
+    record {
+      digits = rw no (subst (IsNumeral 10) plain (few-numeral s h));
+      value = rw no (k ∙ ap pos (e ∙ few-value s h ∙ ap (digits_value 10) plain));
+    }
+
+pub few-negative : (ds : List ℕ) (n : ℕ) (z : ℤ) → AreFew ds → n ≡ value_of ds → z ≡ neg_ℤ (pos n) → IsSignedNumeral (45 ∷ ds) z
+few-negative ds n z h e k = record { digits = few-numeral ds h; value = k ∙ ap (λ m. neg_ℤ (pos m)) (e ∙ few-value ds h) }
