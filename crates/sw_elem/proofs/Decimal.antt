@@ -1,14 +1,20 @@
 -- What std's parse of a whole number says, in the words of a text form.
-use Rattle.std.specs.Prelude.{ℕ, ◌<◌, ◌≤◌, ◌^◌, ◌≡◌, ◌&&◌, ℤ, List, Bool, true, false, Some, None, FitsSigned, cond}
-use Rattle.std.proofs.Common.{refl, sym, subst, arith, ap}
+use Rattle.std.specs.Prelude.{ℕ, zero, suc, ◌-ℤ◌, ◌<◌, ◌≤◌, ◌^◌, ◌≡◌, ◌&&◌, ℤ, List, ◌∷◌, Bool, true, false, Some, None, FitsSigned, cond, pos, neg_ℤ, slice_index}
+use Rattle.std.proofs.Common.{refl, sym, subst, arith, ap, ◌∙◌, rules, eqb, inl, inr}
 use Rattle.std.specs.Bool.{Decides}
+use Rattle.std.specs.List.{list_all}
 use Rattle.std.specs.Int.Signed.{mag}
 use Rattle.std.specs.Int.{w128}
 use Rattle.std.specs.Str.Parse.{IsNumeral, digits_value, without_leading_plus, without_leading_sign, signed_digits_value}
+use Rattle.std.proofs.lemmas.Bool.Decides.{eqb_tells}
+use Rattle.std.proofs.lemmas.Int.{to_z-of_z, ints}
+use mir.Val.{to_z, of_z}
+use Rattle.std.proofs.lemmas.Str.Parse.{IsNumeralModel, numerals_by_fold, not_in_digits, without_leading_plus_none, digits_value_short}
 use Rattle.sw_tree.specs.Meaning.{number}
+use Rattle.sw_tree.specs.Number.{is_digit, value_from, value_of, AreFew}
 use Rattle.sw_tree.specs.Meant.{unsigned_meaning}
 use Rattle.sw_elem.specs.Numbers.{is_within}
-use Rattle.sw_elem.specs.Decimal.{is_numeral, is_number_below, unsigned_parses, signed_parses}
+use Rattle.sw_elem.specs.Decimal.{is_numeral, is_number_below, unsigned_parses, signed_parses, IsSignedNumeral}
 use Rattle.sw_elem.specs.DecimalLaws.{is_number_below-decides, is_numeral-decides, is_within-decides}
 
 false_where_not : {P : Type 0} (b : Bool) → Decides b P → ¬ P → b ≡ false
@@ -59,3 +65,85 @@ signed_parses-None limit s most h =
         absurd (h ((is_numeral-decides (without_leading_sign s)).0 p, record { sfits = omega arith }))
     by true false p q = refl
     by false b p q = refl
+
+-- ---- digits by the words of a number's spelling
+
+-- those digits, as std names them
+spelled : IsNumeralModel (λ ds. list_all is_digit ds ≡ true) value_of
+unfolding is_digit
+spelled = numerals_by_fold (λ ds. list_all is_digit ds ≡ true) (search rules) value_from (search rules)
+
+eqb_false : (a b : ℕ) → ¬ (a ≡ b) → eqb a b ≡ false
+eqb_false a b h = elim (eqb_tells a b) [ inl y ↦ absurd (h y.1) | inr n ↦ n.0 ]
+
+few-numeral : (ds : List ℕ) → AreFew ds → IsNumeral 10 ds
+few-numeral ds h = (h.some, spelled.to ds h.digits)
+
+few-value : (ds : List ℕ) → AreFew ds → value_of ds ≡ digits_value 10 ds
+few-value ds h = spelled.same ds (spelled.to ds h.digits)
+
+few-plain : (ds : List ℕ) → AreFew ds → without_leading_plus ds ≡ ds
+few-plain ds h = without_leading_plus_none ds (not_in_digits spelled ds 43 h.digits (λ r. omega arith) 0 h.some)
+
+few-not_minus : (ds : List ℕ) → AreFew ds → slice_index ds 0 ≡ 45 → ⊥
+few-not_minus ds h = not_in_digits spelled ds 45 h.digits (λ r. omega arith) 0 h.some
+
+pub few-Some : (limit n : ℕ) (s : List ℕ) → AreFew s → n ≡ value_of s → n < limit → unsigned_parses limit s ≡ Some (unsigned_meaning n)
+few-Some limit n s h e w =
+    let plain = sym (few-plain s h) in
+    unsigned_parses-Some limit n s (subst (IsNumeral 10) plain (few-numeral s h)) (e ∙ few-value s h ∙ ap (digits_value 10) plain) w
+
+pub few-beyond : (limit n : ℕ) (s : List ℕ) → AreFew s → n ≡ value_of s → limit ≤ n → unsigned_parses limit s ≡ None
+few-beyond limit n s h e w =
+    let is : n ≡ digits_value 10 (without_leading_plus s) = e ∙ few-value s h ∙ ap (digits_value 10) (sym (few-plain s h)) in
+    unsigned_parses-None limit s (λ k. omega (arith, k.1, is, w))
+
+-- ---- the same behind a minus or not, as 128 bits hold it
+
+few-small : (ds : List ℕ) → AreFew ds → value_of ds < 10 ^ 19
+few-small ds h = digits_value_short spelled ds 19 h.digits h.few
+
+fits_plain : (n : ℕ) → n < 10 ^ 19 → FitsSigned w128 (pos n)
+fits_plain n h = record { sfits = omega (arith, h) }
+
+fits_negative : (n : ℕ) → n < 10 ^ 19 → FitsSigned w128 (neg_ℤ (pos n))
+fits_negative zero h = record { sfits = omega (arith, h) }
+fits_negative (suc k) h = record { sfits = omega (arith, h) }
+
+from_zero : (n : ℕ) → (pos 0 -ℤ pos n) ≡ neg_ℤ (pos n)
+from_zero n = omega (arith, ints)
+
+held : (z w : ℤ) → z ≡ w → FitsSigned w128 w → to_z w128 (of_z w128 z) ≡ w
+held z w e h = to_z-of_z w128 z (subst (FitsSigned w128) (sym e) h) ∙ e
+
+pub held-numeral : (s : List ℕ) (z : ℤ) → IsSignedNumeral s z → IsSignedNumeral s (to_z w128 (of_z w128 z))
+held-numeral s z h = subst (IsSignedNumeral s) (sym (held z z refl h.fits)) h
+
+plain-numeral : (s : List ℕ) (n : ℕ) → AreFew s → n ≡ value_of s → IsSignedNumeral s (pos n)
+plain-numeral s n h e =
+    let no = eqb_false (slice_index s 0) 45 (few-not_minus s h) in
+    let plain = sym (few-plain s h) in
+    record {
+      digits = rw no (subst (IsNumeral 10) plain (few-numeral s h));
+      value = rw no (ap pos (e ∙ few-value s h ∙ ap (digits_value 10) plain));
+      fits = fits_plain n (rw e (few-small s h));
+    }
+
+pub few-plain_signed : (s : List ℕ) (n : ℕ) (z : ℤ) → AreFew s → n ≡ value_of s → z ≡ pos n → IsSignedNumeral s (to_z w128 (of_z w128 z))
+few-plain_signed s n z h e k = held-numeral s z (subst (IsSignedNumeral s) (sym k) (plain-numeral s n h e))
+
+negative-numeral : (ds : List ℕ) (n : ℕ) → AreFew ds → n ≡ value_of ds → IsSignedNumeral (45 ∷ ds) (neg_ℤ (pos n))
+negative-numeral ds n h e = record {
+  digits = few-numeral ds h;
+  value = ap (λ m. neg_ℤ (pos m)) (e ∙ few-value ds h);
+  fits = fits_negative n (rw e (few-small ds h));
+}
+
+pub few-negative : (d : ℕ) (ds s : List ℕ) (n : ℕ) (z : ℤ) → s ≡ d ∷ ds → d ≡ 45 → AreFew ds → n ≡ value_of ds → z ≡ pos n → IsSignedNumeral s (to_z w128 (of_z w128 (pos 0 -ℤ to_z w128 (of_z w128 z))))
+few-negative d ds s n z p q h e k =
+    let own : IsSignedNumeral (45 ∷ ds) (neg_ℤ (pos n)) = negative-numeral ds n h e in
+    let text : s ≡ 45 ∷ ds = p ∙ ap (λ b. b ∷ ds) q in
+    let here : IsSignedNumeral s (neg_ℤ (pos n)) = subst (λ t. IsSignedNumeral t (neg_ℤ (pos n))) (sym text) own in
+    let inner : to_z w128 (of_z w128 z) ≡ pos n = held z (pos n) k (fits_plain n (rw e (few-small ds h))) in
+    let outer : (pos 0 -ℤ to_z w128 (of_z w128 z)) ≡ neg_ℤ (pos n) = ap (λ x. pos 0 -ℤ x) inner ∙ from_zero n in
+    held-numeral s (pos 0 -ℤ to_z w128 (of_z w128 z)) (subst (IsSignedNumeral s) (sym outer) here)

@@ -1,8 +1,9 @@
 -- The texts of whole numbers.
-use Rattle.std.specs.Prelude.{ℕ, nat_lt, ◌&&◌, cond, Bool, List, [], length, Option, Some, None}
+use Rattle.std.specs.Prelude.{◌≡◌, ℕ, ℤ, nat_lt, ◌&&◌, cond, Bool, List, [], length, Option, Some, None, FitsSigned}
+use Rattle.std.specs.Int.{w128}
 use Rattle.std.specs.Fmt.{signed_decimal}
 use Rattle.std.specs.Str.{all_ascii_digits}
-use Rattle.std.specs.Str.Parse.{digits_value, without_leading_plus, without_leading_sign, signed_digits_value}
+use Rattle.std.specs.Str.Parse.{IsNumeral, digits_value, without_leading_plus, without_leading_sign, signed_digits_value}
 use Rattle.sw_tree.specs.Meaning.{Meaning, number}
 use Rattle.sw_tree.specs.Meant.{unsigned_meaning}
 use Rattle.sw_elem.specs.Numbers.{is_within}
@@ -15,6 +16,12 @@ decimal_shows _ = []
 -- one or more ASCII digits
 abbrev pub is_numeral : List ℕ → Bool
 is_numeral ds = nat_lt 0 (length ds) && all_ascii_digits ds
+
+-- digits before which a sign may stand, of that value, which 128 bits hold
+pub record IsSignedNumeral (s : List ℕ) (n : ℤ) : Type 0 where
+  pub digits : IsNumeral 10 (without_leading_sign s)
+  pub value : n ≡ signed_digits_value 10 s
+  pub fits : FitsSigned w128 n
 
 -- one or more ASCII digits, whose number is below the limit
 abbrev pub is_number_below : ℕ → List ℕ → Bool

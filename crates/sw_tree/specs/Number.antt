@@ -1,5 +1,5 @@
 -- The whole number that a text spells (RFC 8259, section 6).
-use Rattle.std.specs.Prelude.{◌≡◌, ℕ, ◌<◌, ◌+◌, ◌-◌, ◌*◌, ◌^◌, ℤ, pos, neg_ℤ, List, [], ◌∷◌, Bool, true, false, ◌&&◌, ◌==◌, nat_lt, nat_le, if◌then◌else◌, Option, Some, None}
+use Rattle.std.specs.Prelude.{◌≡◌, ℕ, ◌<◌, ◌≤◌, ◌+◌, ◌-◌, ◌*◌, ◌^◌, ℤ, pos, neg_ℤ, List, [], ◌∷◌, length, Bool, true, false, ◌&&◌, ◌==◌, nat_lt, nat_le, if◌then◌else◌, Option, Some, None}
 use Rattle.std.specs.List.{list_all}
 
 -- DIGIT
@@ -50,6 +50,12 @@ whole_of s = if is_whole s then Some (int_of s) else None
 abbrev pub key_number : List ℕ → Option ℤ
 key_number s = if is_number s then whole_of s else None
 
+-- from one to 19 digits, and nothing else
+pub record AreFew (ds : List ℕ) : Type 0 where
+  pub some : 0 < length ds
+  pub few : length ds ≤ 19
+  pub digits : list_all is_digit ds ≡ true
+
 -- digits alone, of a value below 2^128
 pub record AreWide (ds : List ℕ) : Type 0 where
   pub digits : list_all is_digit ds ≡ true
@@ -59,8 +65,3 @@ pub record AreWide (ds : List ℕ) : Type 0 where
 pub record IsWideInt (ds : List ℕ) : Type 0 where
   pub int : is_int ds ≡ true
   pub small : value_of ds < 2 ^ 128
-
--- digits alone, of that value
-pub record AreDigitsOf (ds : List ℕ) (n : ℕ) : Type 0 where
-  pub digits : list_all is_digit ds ≡ true
-  pub value : n ≡ value_of ds

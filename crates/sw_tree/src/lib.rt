@@ -52,7 +52,7 @@ pub use meant::{Meant, Named};
 pub use mode::{Kind, Mode, Place, WireKind};
 pub use node::Node;
 pub use node_builder::NodeBuilder;
-pub use number::{key_number, whole_of_spelling, whole_text};
+pub use number::{key_number, short_value, whole_of_spelling, whole_text};
 pub use path::{NodePath, Step, node_at, path_of};
 pub use ranked::{Keyed, Ranked};
 pub use skipped::Skipped;

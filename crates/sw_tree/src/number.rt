@@ -1,16 +1,16 @@
 //! The whole number that a text spells, and the text that spells a whole number.
 
-ghost use Rattle.std.specs.Prelude.{◌≡◌, ◌∷◌, IfOk, IfSome, SomeIff, string_bytes};
+ghost use Rattle.std.specs.Prelude.{◌≡◌, ◌∷◌, IfOk, SomeIff, string_bytes};
 ghost use Rattle.std.specs.Fmt.{signed_decimal};
 ghost use Rattle.sw_tree.specs.Number as number;
-ghost use Rattle.sw_tree.specs.Number.{value_of, AreWide, IsWideInt, AreDigitsOf};
+ghost use Rattle.sw_tree.specs.Number.{value_of, AreFew, AreWide, IsWideInt};
 
 use crate::whole::Whole;
 use itoa::Buffer;
 use std::alloc::{AllocError, Global};
 
-/// Below it ten times a number and one byte more have 64 bits.
-const SHORT: u64 = 1_844_674_407_370_955_100;
+/// 64 bits hold every number of so many digits.
+const SHORT: usize = 19;
 
 #[tactic(auto, unfolding(crate::specs::Number::is_digit))]
 fn is_digit(byte: u8) -> bool
@@ -19,14 +19,18 @@ fn is_digit(byte: u8) -> bool
     b'0' <= byte && byte <= b'9'
 }
 
-/// The value of digits, where they are few. `None` also where a byte is no digit.
+/// The value of one to 19 decimal digits: `None` exactly where there are none or more, or where
+/// a byte is no digit. Leading zeros count as digits.
 #[tactic(auto, unfolding(crate::specs::Number::is_digit))]
-fn short_value(digits: &[u8]) -> Option<u64>
-    ensures { IfSome result (AreDigitsOf digits.now) }
+pub fn short_value(digits: &[u8]) -> Option<u64>
+    ensures { SomeIff result (AreFew digits.now) (value_of digits.now) }
 {
+    if digits.is_empty() || digits.len() > SHORT {
+        return None;
+    }
     let mut value: u64 = 0;
     for digit in digits {
-        if value >= SHORT || !is_digit(*digit) {
+        if !is_digit(*digit) {
             return None;
         }
         value = value * 10 + u64::from(*digit - b'0');

@@ -2,7 +2,7 @@ ghost use Rattle.std.specs.Prelude.{◌≡◌, ◌↔◌, IsTrue};
 
 use crate::{
     Content, DeError, DeFail, DeKind, Doc, DocBuilder, Keyed, Kind, Meant, Mode, Node, Place,
-    PrintError, Refusal, SerError, Skipped, Step, View, Whole, WireKind, image, key_number,
+    PrintError, Refusal, SerError, Skipped, Step, View, Whole, WireKind, image, key_number, short_value,
     node_at, path_of, whole_of_spelling, whole_text,
 };
 use std::alloc::{AllocError, Global};
@@ -238,6 +238,24 @@ fn a_key_spells_a_number(rt: HostRuntime) {
     assert!(rt; whole_of_spelling(b"1:").is_none() && whole_of_spelling(b"-").is_none());
     let text = whole_text(rt.alloc(), Whole::from_i128(-7));
     assert!(rt; matches!(&text, Ok(text) if text.as_str() == "-7"));
+}
+
+#[test]
+fn few_digits_have_a_value(rt: HostRuntime) {
+    for (digits, wanted) in [
+        ("", None),
+        ("0", Some(0)),
+        ("007", Some(7)),
+        ("1234567890", Some(1_234_567_890)),
+        ("9999999999999999999", Some(9_999_999_999_999_999_999)),
+        ("00000000000000000001", None),
+        ("+5", None),
+        ("-5", None),
+        ("5/", None),
+        (":5", None),
+    ] {
+        assert!(rt; short_value(digits.as_bytes()) == wanted, "{digits}");
+    }
 }
 
 /// `[1, "a", -1, null]`.

@@ -5,7 +5,7 @@ use Rattle.std.proofs.lemmas.Int.{to_z-of_z}
 use mir.Val.{to_z, of_z}
 use Rattle.std.specs.Str.Parse.{signed_digits_value}
 use Rattle.sw_elem.proofs.Decimal.{signed_parses-Some, signed_parses-beyond, signed_parses-None}
-use Rattle.sw_elem.proofs.digits.wide_signed_in.Goals as goal
+use Rattle.sw_elem.proofs.digits.parsed_signed_in.Goals as goal
 
 passed : (z w : ℤ) → z ≡ w → FitsSigned w128 w → to_z w128 (of_z w128 z) ≡ w
 passed z w e h = to_z-of_z w128 z (subst (FitsSigned w128) (sym e) h) ∙ e

@@ -1,6 +1,6 @@
 use Rattle.std.proofs.Common.{◌+◌, arith}
 use Rattle.sw_elem.proofs.Decimal.{unsigned_parses-Some, unsigned_parses-None}
-use Rattle.sw_elem.proofs.digits.wide_unsigned_in.Goals as goal
+use Rattle.sw_elem.proofs.digits.parsed_unsigned_in.Goals as goal
 
 pub returns-then-value-most-clause-answer : goal.returns-then-value-most-clause-answer
 returns-then-value-most-clause-answer c = unsigned_parses-Some (c.args.most + 1) c.in-Ok.value c.args.text.now c.in-Ok.ensures.value.0.0.0 c.in-Ok.ensures.value.0.1 (omega arith)
