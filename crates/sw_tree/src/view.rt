@@ -97,7 +97,7 @@ impl<'a> View<'a> {
                 wides: self.wides,
                 cells: self.cells,
                 at: self.at + 1,
-                left: extent.count,
+                left: extent.count as usize,
                 fixed: self.fixed,
             }),
             _ => None,
@@ -116,7 +116,7 @@ impl<'a> View<'a> {
                 wides: self.wides,
                 cells: self.cells,
                 at: self.at + 1,
-                left: extent.count,
+                left: extent.count as usize,
                 fixed: self.fixed,
             }),
             _ => None,
@@ -129,7 +129,7 @@ impl<'a> View<'a> {
         ensures place { result ≡ self.entry.at + size (tree_of self.entry) }
     {
         let cell = self.cells[self.at];
-        self.at + 1 + cell.below()
+        self.at + 1 + cell.below() as usize
     }
 
     /// The place behind a counting node and all below it.
@@ -196,7 +196,7 @@ impl<'a> View<'a> {
     {
         match self.cell() {
             Cell::Small(value) => Some(Whole::from_i64(value)),
-            Cell::Wide(index) => Some(self.wides[index]),
+            Cell::Wide(index) => Some(self.wides[index as usize]),
             _ => None,
         }
     }
@@ -217,8 +217,8 @@ impl<'a> View<'a> {
         ensures { option_copied result ≡ bytes_at (tree_of self.entry) }
     {
         match self.cell() {
-            Cell::Bytes(span) => Some(&self.input[span.start..span.end]),
-            Cell::CopiedBytes(span) => Some(&self.side[span.start..span.end]),
+            Cell::Bytes(span) => Some(&self.input[span.start as usize..span.end as usize]),
+            Cell::CopiedBytes(span) => Some(&self.side[span.start as usize..span.end as usize]),
             _ => None,
         }
     }
@@ -239,10 +239,10 @@ impl<'a> View<'a> {
         ensures { result ≡ len_of (tree_of self.entry) }
     {
         match self.cell() {
-            Cell::Bytes(span) => span.end - span.start,
-            Cell::CopiedBytes(span) => span.end - span.start,
-            Cell::List(extent) => extent.count,
-            Cell::Map(extent) => extent.count,
+            Cell::Bytes(span) => (span.end - span.start) as usize,
+            Cell::CopiedBytes(span) => (span.end - span.start) as usize,
+            Cell::List(extent) => extent.count as usize,
+            Cell::Map(extent) => extent.count as usize,
             _ => 0,
         }
     }
@@ -276,7 +276,7 @@ fn text_in<'a>(source: &'a [u8], span: Span) -> &'a str
     requires { IsText source.now span }
     ensures { result.now ≡ part source.now span }
 {
-    unsafe { std::str::from_utf8_unchecked(&source[span.start..span.end]) }
+    unsafe { std::str::from_utf8_unchecked(&source[span.start as usize..span.end as usize]) }
 }
 
 /// The items of a list that are left, in order.
