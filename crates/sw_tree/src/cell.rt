@@ -29,6 +29,8 @@ pub enum Cell {
     Map(Extent),
 }
 
+const _: () = prove!(size_of::<Cell>() == 16);
+
 impl Cell {
     ghost use Rattle.std.specs.Prelude.{◌≡◌};
     ghost use Rattle.sw_tree.specs.Cells.{below};

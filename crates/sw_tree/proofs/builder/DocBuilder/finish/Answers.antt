@@ -9,7 +9,7 @@ pub from_cells-requires : goal.from_cells-requires
 from_cells-requires c =
     let a = c.self.inside in
     let f = finishing _ (reverse a.opens.items) a.cells.items a.kids c.self.invariant.stacked (ap (λ (b : Built). is_some b.root) c.self.view_is ∙ c.requires.root) in
-    record { formed = f.formed; some = f.some }
+    record { formed = f.formed; some = f.some; few = c.self.invariant.few }
 
 pub returns-clause-tree : goal.returns-clause-tree
 returns-clause-tree c =
