@@ -17,7 +17,7 @@ use Rattle.sw_tree.specs.declared.cell.Cell.{Cell}
 use Rattle.sw_tree.specs.declared.cell.Cell.TheVariants.{Null, Bool as Truth, Small, Wide, Text, Copied, Bytes, CopiedBytes, List as Items, Map}
 use Rattle.sw_tree.specs.declared.builder.Open.{Open}
 use Rattle.sw_tree.specs.Cells.{Store, forest, arity, below, tree_at, Formed, IsFine, IsPart, first}
-use Rattle.sw_tree.specs.Builder.{Built, added, longer, opened, closed, built_tree, finished, IsComplete, meant, Segment, Stacked, open_of, done_of, root_of, IsFirst}
+use Rattle.sw_tree.specs.Builder.{Built, added, longer, opened, closed, built_tree, finished, IsComplete, meant, Segment, Stacked, Standing, open_of, done_of, root_of, IsFirst}
 use Rattle.sw_tree.proofs.CellLemmas.{Formed-drop, forest_proper}
 
 tree_at-append : (s : Store) (c : Cell) (f g : List Tree) → arity c ≤ length f → tree_at s c (f ++ g) ≡ tree_at s c f
@@ -274,6 +274,10 @@ kept_wide s z r cells kids index a range h none =
     let is : tree_at (grow s [] (z ∷ [])) (Wide index) [] ≡ tree.int z = rw a (ap tree.int (last_wide s.wides z (pos 0))) in
     subst (λ (side : List ℕ). Kept s (record { input = s.input; side = side; wides = s.wides ++ z ∷ [] }) r cells kids 0 (Wide index) (tree.int z)) (append-nil s.side)
     (kept s [] (z ∷ []) r cells kids (Wide index) (tree.int z) h none (omega (arith, all, a)) refl refl is (omega (arith, opens_le s r cells kids h)) range)
+
+-- one cell more, of which there stay fewer than 2 ^ 32
+pub stands : (s : Store) (r : List Open) (cells : List Cell) (c : Cell) (kids : ℕ) → Stacked s r (cells ++ c ∷ []) kids → length cells + 1 < 4294967296 → Standing s r (cells ++ c ∷ []) kids
+stands s r cells c kids h few = let one : List Cell = c ∷ [] in record { stacked = h; few = rw (length-append cells one) (omega arith) }
 
 pub longer-none : (b : Built) → longer b 0 ≡ b
 longer-none b = ap (λ (n : ℕ). record { input = b.input; side_len = n; frames = b.frames; root = b.root }) (omega arith)

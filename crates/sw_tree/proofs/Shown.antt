@@ -45,6 +45,6 @@ map_seen s xs h = map_at s.tree s.place s.counts xs h
 pub shallow_view : (v : View) → depth (tree_of v) ≤ 128
 unfolding seen forest
 shallow_view v =
-    let here = is_at (store_of v) v.cells.now v.at Null v.inside v.formed in
+    let here = is_at (store_of v) v.sheet.now.cells.items v.at Null v.inside v.formed in
     let tree_is = ap (λ cs. first (forest (store_of v) cs)) here.means in
     rw tree_is here.fits.shallow

@@ -96,6 +96,11 @@ Stacked s [] cells kids = Segment s 0 cells kids
 Stacked s (o ∷ outer) cells kids =
     (o.at < length cells) × IsFirst outer o.at × Segment s (length outer + 1) (drop (o.at + 1) cells) kids × Stacked s outer (take o.at cells) o.kids
 
+-- a builder's cells, of which there are fewer than 2 ^ 32
+pub record Standing (s : Store) (r : List Open) (cells : List Cell) (kids : ℕ) : Type 0 where
+  pub stacked : Stacked s r cells kids
+  pub few : length cells < 4294967296
+
 -- what a builder means, with the open lists and maps the innermost first
 abbrev pub meant : Store → List Open → List Cell → Built
 meant s r cells = record { input = s.input; side_len = length s.side; frames = open_of s r cells; root = root_of (done_of s r cells) }

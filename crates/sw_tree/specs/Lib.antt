@@ -6,6 +6,7 @@ pub mod Steps
 pub mod Tree
 pub mod Proper
 pub mod ProperLaws
+pub mod Sheet
 pub mod Short
 pub mod NodeTrees
 pub mod TreeCode

@@ -1,4 +1,4 @@
-ghost use Rattle.std.specs.Prelude.{◌≡◌, ◌<◌, ◌≤◌, ◌+◌, [], ◌∷◌, length, slice_range, None, Some, is_some, true, false, IsOk, OnOk, OnErr};
+ghost use Rattle.std.specs.Prelude.{◌≡◌, ◌<◌, ◌≤◌, ◌+◌, [], ◌∷◌, ◌++◌, length, slice_range, None, Some, is_some, true, false, IsOk, IfOk, OnOk, OnErr};
 ghost use Rattle.std.specs.Str.{IsUtf8};
 ghost use Rattle.sw_tree.specs.Steps.{Each};
 ghost use Rattle.sw_tree.specs.Tree as tree;
@@ -14,8 +14,8 @@ use std::marker::Model;
 /// around it has so far.
 #[derive(Clone, Copy)]
 pub(crate) struct Open {
-    pub at: usize,
-    pub kids: usize,
+    pub at: u32,
+    pub kids: u32,
     pub is_map: bool,
 }
 
@@ -32,12 +32,12 @@ pub struct DocBuilder<'de> {
     wides: Vec<Whole>,
     cells: Vec<Cell>,
     opens: Vec<Open>,
-    kids: usize,
+    kids: u32,
 }
 
 impl<'de> Model for DocBuilder<'de> {
     ghost use Rattle.std.specs.Prelude.{reverse};
-    ghost use Rattle.sw_tree.specs.Builder.{Built, coded_built, meant, Stacked};
+    ghost use Rattle.sw_tree.specs.Builder.{Built, coded_built, meant, Standing};
 
     ghost Value = { Built };
 
@@ -45,7 +45,7 @@ impl<'de> Model for DocBuilder<'de> {
 
     ghost view = { λ b. meant (record { input = b.input.now; side = b.side.items; wides = b.wides.items }) (reverse b.opens.items) b.cells.items };
 
-    ghost invariant = { λ b. Stacked (record { input = b.input.now; side = b.side.items; wides = b.wides.items }) (reverse b.opens.items) b.cells.items b.kids };
+    ghost invariant = { λ b. Standing (record { input = b.input.now; side = b.side.items; wides = b.wides.items }) (reverse b.opens.items) b.cells.items b.kids };
 }
 
 impl<'de> DocBuilder<'de> {
@@ -88,7 +88,7 @@ impl<'de> DocBuilder<'de> {
         ensures ok { OnOk result (self.new ≡ added self.old (tree_at (record { input = self.old.input; side = []; wides = [] }) cell [])) }
         ensures err { OnErr result (self.new ≡ self.old) }
     {
-        self.cells.push(cell)?;
+        push_cell(&mut self.cells, cell)?;
         self.kids += 1;
         Ok(())
     }
@@ -127,11 +127,12 @@ impl<'de> DocBuilder<'de> {
         ensures ok { OnOk result (self.new ≡ added self.old (tree.int value)) }
         ensures err { OnErr result (self.new ≡ self.old) }
     {
-        let index = self.wides.len();
+        let before = self.wides.len();
+        let index = short(before)?;
         self.wides.push(value)?;
-        if let Err(failed) = self.cells.push(Cell::Wide(index)) {
-            self.wides.truncate(index);
-            return Err(AllocError::from(failed));
+        if let Err(failed) = push_cell(&mut self.cells, Cell::Wide(index)) {
+            self.wides.truncate(before);
+            return Err(failed);
         }
         self.kids += 1;
         Ok(())
@@ -158,7 +159,7 @@ impl<'de> DocBuilder<'de> {
         ensures ok { OnOk result (self.new ≡ added self.old (tree.text (slice_range self.old.input start end))) }
         ensures err { OnErr result (self.new ≡ self.old) }
     {
-        self.leaf(Cell::Text(Span { start, end }))
+        self.leaf(Cell::Text(span_of(start, end)?))
     }
 
     /// Adds the byte string that is this part of the input.
@@ -170,8 +171,8 @@ impl<'de> DocBuilder<'de> {
         ensures ok { OnOk result (self.new ≡ added self.old (tree.bytes (slice_range self.old.input start end))) }
         ensures err { OnErr result (self.new ≡ self.old) }
     {
-        let span = span_of(self.input, start, end);
-        self.leaf(Cell::Bytes(span))
+        let _small = are_bytes(self.input);
+        self.leaf(Cell::Bytes(span_of(start, end)?))
     }
 
     /// Adds that text, and keeps a copy of it beside the input.
@@ -180,12 +181,13 @@ impl<'de> DocBuilder<'de> {
         ensures ok { OnOk result (self.new ≡ added (longer self.old (length text.now)) (tree.text text.now)) }
         ensures err { OnErr result (self.new ≡ self.old) }
     {
+        let bytes = text.as_bytes();
         let start = self.side.len();
-        self.side.extend_from_slice(text.as_bytes())?;
-        let end = self.side.len();
-        if let Err(failed) = self.cells.push(Cell::Copied(Span { start, end })) {
+        let span = span_of(start, start + bytes.len())?;
+        self.side.extend_from_slice(bytes)?;
+        if let Err(failed) = push_cell(&mut self.cells, Cell::Copied(span)) {
             self.side.truncate(start);
-            return Err(AllocError::from(failed));
+            return Err(failed);
         }
         self.kids += 1;
         Ok(())
@@ -199,14 +201,11 @@ impl<'de> DocBuilder<'de> {
         ensures err { OnErr result (self.new ≡ self.old) }
     {
         let before = self.side.len();
+        let span = span_of(before, before + bytes.len())?;
         self.side.extend_from_slice(bytes)?;
-        let span = Span {
-            start: before,
-            end: self.side.len(),
-        };
-        if let Err(failed) = self.cells.push(Cell::CopiedBytes(span)) {
+        if let Err(failed) = push_cell(&mut self.cells, Cell::CopiedBytes(span)) {
             self.side.truncate(before);
-            return Err(AllocError::from(failed));
+            return Err(failed);
         }
         self.kids += 1;
         Ok(())
@@ -219,15 +218,15 @@ impl<'de> DocBuilder<'de> {
         ensures ok { OnOk result (self.new ≡ opened self.old is_map) }
         ensures err { OnErr result (self.new ≡ self.old) }
     {
-        let at = self.cells.len();
+        let at = short(self.cells.len())?;
         self.opens.push(Open {
             at,
             kids: self.kids,
             is_map,
         })?;
-        if let Err(failed) = self.cells.push(Cell::Null) {
+        if let Err(failed) = push_cell(&mut self.cells, Cell::Null) {
             self.opens.pop();
-            return Err(AllocError::from(failed));
+            return Err(failed);
         }
         self.kids = 0;
         Ok(())
@@ -261,8 +260,8 @@ impl<'de> DocBuilder<'de> {
         ensures ok { OnOk result (self.new ≡ closed self.old) }
     {
         if let Some(open) = self.opens.pop() {
-            let below = self.cells.len() - open.at - 1;
-            self.cells[open.at] = closed_cell(open.is_map, self.kids, below);
+            let below = self.cells.len() as u32 - open.at - 1;
+            self.cells[open.at as usize] = closed_cell(open.is_map, self.kids, below);
             self.kids = open.kids + 1;
         }
         Ok(())
@@ -286,16 +285,48 @@ impl<'de> DocBuilder<'de> {
     }
 }
 
-/// The span of a part of bytes, which are below 256.
-fn span_of(source: &[u8], start: usize, end: usize) -> Span
-    ensures span { result ≡ record { start = start; end = end } }
-    ensures small { Each (λ b. b < 256) source.now }
+/// That number in 32 bits. What is greater is refused as want of memory.
+fn short(value: usize) -> Result<u32, AllocError>
+    ensures { IfOk result (λ n. n ≡ value) }
 {
-    Span { start, end }
+    u32::try_from(value).map_err(|_| AllocError)
+}
+
+/// The span from one place to another behind it.
+fn span_of(start: usize, end: usize) -> Result<Span, AllocError>
+    requires { start ≤ end }
+    ensures { IfOk result (λ s. s ≡ record { start = start; end = end }) }
+{
+    let end = short(end)?;
+    Ok(Span {
+        start: start as u32,
+        end,
+    })
+}
+
+/// Whether these are bytes, as they always are: each is below 256.
+fn are_bytes(source: &[u8]) -> bool
+    ensures { Each (λ b. b < 256) source.now }
+{
+    let _count = source.len();
+    true
+}
+
+/// Adds that cell behind the others, of which there stay fewer than 2^32.
+fn push_cell(cells: &mut Vec<Cell>, cell: Cell) -> Result<(), AllocError>
+    ensures ok { OnOk result (cells.new.items ≡ cells.old.items ++ cell ∷ []) }
+    ensures few { OnOk result (length cells.old.items + 1 < 4294967296) }
+    ensures err { OnErr result (cells.new.items ≡ cells.old.items) }
+{
+    if cells.len() >= u32::MAX as usize {
+        return Err(AllocError);
+    }
+    cells.push(cell)?;
+    Ok(())
 }
 
 /// The cell of a finished list or map of so many children.
-fn closed_cell(is_map: bool, kids: usize, below: usize) -> Cell
+fn closed_cell(is_map: bool, kids: u32, below: u32) -> Cell
     ensures { result ≡ finished is_map kids below }
 {
     if is_map {

@@ -1,6 +1,7 @@
 use crate::cell::Cell;
 use crate::from_node::document_of;
 use crate::node::Node;
+use crate::sheet::Sheet;
 use crate::view::View;
 use crate::whole::Whole;
 use std::alloc::{AllocError, Global};
@@ -10,26 +11,25 @@ use std::marker::Model;
 #[derive(Drop)]
 pub struct Doc<'de> {
     input: &'de [u8],
-    side: Vec<u8>,
-    wides: Vec<Whole>,
-    cells: Vec<Cell>,
+    sheet: Sheet,
 }
 
 impl<'de> Model for Doc<'de> {
-    ghost use Rattle.std.specs.Prelude.{length, ◌<◌};
+    ghost use Rattle.std.specs.Prelude.{length};
     ghost use Rattle.sw_tree.specs.Doc.{Document, coded_document};
-    ghost use Rattle.sw_tree.specs.Cells.{forest, Formed, first};
+    ghost use Rattle.sw_tree.specs.Cells.{Formed};
+    ghost use Rattle.sw_tree.specs.Sheet.{sheet_store, sheet_tree};
 
     ghost Value = { Document };
 
     ghost coded = { coded_document };
 
     ghost view = { λ d. record {
-      tree = first (forest (record { input = d.input.now; side = d.side.items; wides = d.wides.items }) d.cells.items);
-      side_len = length d.side.items;
+      tree = sheet_tree d.input.now d.sheet;
+      side_len = length d.sheet.side.items;
     } };
 
-    ghost invariant = { λ d. Formed (record { input = d.input.now; side = d.side.items; wides = d.wides.items }) d.cells.items × (0 < length d.cells.items) };
+    ghost invariant = { λ d. Formed (sheet_store d.input.now d.sheet) d.sheet.cells.items };
 }
 
 impl<'de> Doc<'de> {
@@ -47,6 +47,7 @@ impl<'de> Doc<'de> {
     ) -> Doc<'de>
         requires formed { Formed (record { input = input.now; side = side.items; wides = wides.items }) cells.items }
         requires some { 0 < length cells.items }
+        requires few { length cells.items < 4294967296 }
         ensures { result ≡ record {
           tree = first (forest (record { input = input.entry.now; side = side.items; wides = wides.items }) cells.items);
           side_len = length side.items;
@@ -54,9 +55,11 @@ impl<'de> Doc<'de> {
     {
         Doc {
             input,
-            side,
-            wides,
-            cells,
+            sheet: Sheet {
+                side,
+                wides,
+                cells,
+            },
         }
     }
 
@@ -72,13 +75,7 @@ impl<'de> Doc<'de> {
     pub fn view(&self) -> View<'_>
         ensures { seen result ≡ record { tree = self.now.tree; place = 0; counts = true } }
     {
-        View::root(
-            self.input,
-            self.side.as_slice(),
-            self.wides.as_slice(),
-            self.cells.as_slice(),
-            None,
-        )
+        View::root(self.input, &self.sheet, true, 0)
     }
 
     /// The root of a document that stands inside a node of another: it and all nodes below
@@ -86,19 +83,13 @@ impl<'de> Doc<'de> {
     pub fn view_inside(&self, place: usize) -> View<'_>
         ensures { seen result ≡ record { tree = self.now.tree; place = place; counts = false } }
     {
-        View::root(
-            self.input,
-            self.side.as_slice(),
-            self.wides.as_slice(),
-            self.cells.as_slice(),
-            Some(place),
-        )
+        View::root(self.input, &self.sheet, false, place)
     }
 
     /// How many bytes stand in the text beside the input.
     pub fn side_len(&self) -> usize
         ensures { result ≡ self.now.side_len }
     {
-        self.side.len()
+        self.sheet.side.len()
     }
 }

@@ -29,6 +29,7 @@ pub mod path;
 mod ranges;
 pub mod ranked;
 mod sequences;
+mod sheet;
 mod signed;
 pub mod skipped;
 mod to_node;

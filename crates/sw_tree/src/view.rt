@@ -1,11 +1,12 @@
 ghost use Rattle.std.specs.Prelude.{◌<◌, ◌≤◌, ◌≡◌, length, IfOk};
-ghost use Rattle.sw_tree.specs.Cells.{Store, Formed, IsPart, IsText, part};
+ghost use Rattle.sw_tree.specs.Cells.{Formed, IsText, part};
 ghost use Rattle.sw_tree.specs.Formed.{Formed-prop};
 
 use crate::cell::{Cell, Span};
 use crate::kept::Kept;
 use crate::mode::Kind;
 use crate::node::Node;
+use crate::sheet::Sheet;
 use crate::to_node::node_of;
 use crate::whole::Whole;
 use std::alloc::{AllocError, Global};
@@ -18,14 +19,15 @@ use std::marker::Model;
 #[derive(Clone, Copy)]
 pub struct View<'a> {
     input: &'a [u8],
-    side: &'a [u8],
-    wides: &'a [Whole],
-    cells: &'a [Cell],
-    at: usize,
-    fixed: Option<usize>,
-    ghost inside: { at < length cells.now },
-    ghost formed: { Formed (record { input = input.now; side = side.now; wides = wides.now }) cells.now } by { Formed-prop (record { input = input.now; side = side.now; wides = wides.now }) cells.now },
+    sheet: &'a Sheet,
+    fixed: usize,
+    at: u32,
+    counts: bool,
+    ghost inside: { at < length sheet.now.cells.items },
+    ghost formed: { Formed (record { input = input.now; side = sheet.now.side.items; wides = sheet.now.wides.items }) sheet.now.cells.items } by { Formed-prop (record { input = input.now; side = sheet.now.side.items; wides = sheet.now.wides.items }) sheet.now.cells.items },
 }
+
+const _: () = prove!(size_of::<View<'static>>() == 40);
 
 impl<'a> View<'a> {
     ghost use Rattle.std.specs.Prelude.{◌+◌, List, ◌∷◌, drop, Some, true, false, option_map};
@@ -33,34 +35,28 @@ impl<'a> View<'a> {
     ghost use Rattle.sw_tree.specs.Tree.{depth, size, kind_of, items_at, len_of, text_at, bytes_at, truth_at, int_at, pairs_at};
     ghost use Rattle.sw_tree.specs.Proper.{IsProper};
     ghost use Rattle.sw_tree.specs.Short.{IsShort};
-    ghost use Rattle.sw_tree.specs.Cells.{IsFine, arity, tree_at, forest, first};
+    ghost use Rattle.sw_tree.specs.Cells.{IsFine, arity, tree_at, forest};
     ghost use Rattle.sw_tree.specs.Seen.{Seen, items_seen, entries_seen};
-    ghost use Rattle.sw_tree.specs.View.{seen, tree_of, place_in, is_counting, store_of};
+    ghost use Rattle.sw_tree.specs.Sheet.{sheet_store, sheet_tree};
+    ghost use Rattle.sw_tree.specs.View.{seen, tree_of, place_in, store_of};
 
+    /// The root, which stands at 0 where it counts, and is fixed at that place otherwise.
     #[tactic(auto, unfolding(crate::specs::View::seen))]
-    pub(crate) fn root(
-        input: &'a [u8],
-        side: &'a [u8],
-        wides: &'a [Whole],
-        cells: &'a [Cell],
-        fixed: Option<usize>,
-    ) -> View<'a>
-        requires formed { Formed (record { input = input.now; side = side.now; wides = wides.now }) cells.now }
-        requires inside { 0 < length cells.now }
+    pub(crate) fn root(input: &'a [u8], sheet: &'a Sheet, counts: bool, fixed: usize) -> View<'a>
+        requires { Formed (sheet_store input.now sheet.now) sheet.now.cells.items }
         ensures { seen result
             ≡ record {
-              tree = first (forest (record { input = input.entry.now; side = side.entry.now; wides = wides.entry.now }) cells.entry.now);
-              place = place_in fixed 0;
-              counts = is_counting fixed;
+              tree = sheet_tree input.entry.now sheet.entry.now;
+              place = place_in counts fixed 0;
+              counts = counts;
             } }
     {
         View {
             input,
-            side,
-            wides,
-            cells,
-            at: 0,
+            sheet,
             fixed,
+            at: 0,
+            counts,
         }
     }
 
@@ -70,10 +66,8 @@ impl<'a> View<'a> {
     pub fn place(&self) -> usize
         ensures { result ≡ (seen self.now).place }
     {
-        match self.fixed {
-            Some(place) => place,
-            None => self.at,
-        }
+        let at = self.at as usize;
+        if self.counts { at } else { self.fixed }
     }
 
     /// Whether the places of the nodes below count on from this one's; where the document
@@ -82,7 +76,7 @@ impl<'a> View<'a> {
     pub fn counts(&self) -> bool
         ensures { result ≡ (seen self.now).counts }
     {
-        self.fixed.is_none()
+        self.counts
     }
 
     /// The items in order, each at its place, where the node is a list.
@@ -93,12 +87,11 @@ impl<'a> View<'a> {
         match self.cell() {
             Cell::List(extent) => Some(Items {
                 input: self.input,
-                side: self.side,
-                wides: self.wides,
-                cells: self.cells,
+                sheet: self.sheet,
+                fixed: self.fixed,
                 at: self.at + 1,
                 left: extent.count,
-                fixed: self.fixed,
+                counts: self.counts,
             }),
             _ => None,
         }
@@ -112,24 +105,23 @@ impl<'a> View<'a> {
         match self.cell() {
             Cell::Map(extent) => Some(Entries {
                 input: self.input,
-                side: self.side,
-                wides: self.wides,
-                cells: self.cells,
+                sheet: self.sheet,
+                fixed: self.fixed,
                 at: self.at + 1,
                 left: extent.count,
-                fixed: self.fixed,
+                counts: self.counts,
             }),
             _ => None,
         }
     }
 
     /// The number of the cell behind the node and all below it.
-    pub(crate) fn behind(self) -> usize
-        ensures next { forest (store_of self.entry) (drop self.entry.at self.entry.cells.now) ≡ tree_of self.entry ∷ forest (store_of self.entry) (drop result self.entry.cells.now) }
+    #[inline]
+    pub(crate) fn behind(self) -> u32
+        ensures next { forest (store_of self.entry) (drop self.entry.at self.entry.sheet.now.cells.items) ≡ tree_of self.entry ∷ forest (store_of self.entry) (drop result self.entry.sheet.now.cells.items) }
         ensures place { result ≡ self.entry.at + size (tree_of self.entry) }
     {
-        let cell = self.cells[self.at];
-        self.at + 1 + cell.below()
+        self.at + 1 + self.sheet.cell(self.at).below()
     }
 
     /// The place behind a counting node and all below it.
@@ -138,25 +130,23 @@ impl<'a> View<'a> {
         requires { (seen self).counts ≡ true }
         ensures { result ≡ (seen self.entry).place + size (tree_of self.entry) }
     {
-        self.behind()
+        self.behind() as usize
     }
 
     /// The node's cell, and what is known of it.
+    #[inline]
     fn cell(self) -> Cell
         ensures shallow { depth (tree_of self.entry) ≤ 128 }
         ensures proper { IsProper (tree_of self.entry) }
         ensures short { IsShort (tree_of self.entry) }
-        ensures enough { arity result ≤ length (forest (store_of self.entry) (drop (self.entry.at + 1) self.entry.cells.now)) }
+        ensures enough { arity result ≤ length (forest (store_of self.entry) (drop (self.entry.at + 1) self.entry.sheet.now.cells.items)) }
         ensures fine { IsFine (store_of self.entry) result }
-        ensures tree { tree_of self.entry ≡ tree_at (store_of self.entry) result (forest (store_of self.entry) (drop (self.entry.at + 1) self.entry.cells.now)) }
-        ensures place { (seen self.entry).place ≡ place_in self.entry.fixed self.entry.at }
-        ensures counts { (seen self.entry).counts ≡ is_counting self.entry.fixed }
+        ensures tree { tree_of self.entry ≡ tree_at (store_of self.entry) result (forest (store_of self.entry) (drop (self.entry.at + 1) self.entry.sheet.now.cells.items)) }
+        ensures place { (seen self.entry).place ≡ place_in self.entry.counts self.entry.fixed self.entry.at }
+        ensures counts { (seen self.entry).counts ≡ self.entry.counts }
     {
         let _input = self.input.len();
-        let _side = self.side.len();
-        let _cells = self.cells.len();
-        let cell = self.cells[self.at];
-        cell
+        self.sheet.cell(self.at)
     }
 
     /// The node's kind.
@@ -196,7 +186,7 @@ impl<'a> View<'a> {
     {
         match self.cell() {
             Cell::Small(value) => Some(Whole::from_i64(value)),
-            Cell::Wide(index) => Some(self.wides[index]),
+            Cell::Wide(index) => Some(self.sheet.wides[index as usize]),
             _ => None,
         }
     }
@@ -207,7 +197,7 @@ impl<'a> View<'a> {
     {
         match self.cell() {
             Cell::Text(span) => Some(text_in(self.input, span)),
-            Cell::Copied(span) => Some(text_in(self.side, span)),
+            Cell::Copied(span) => Some(text_in(self.sheet.side.as_slice(), span)),
             _ => None,
         }
     }
@@ -217,8 +207,12 @@ impl<'a> View<'a> {
         ensures { option_copied result ≡ bytes_at (tree_of self.entry) }
     {
         match self.cell() {
-            Cell::Bytes(span) => Some(&self.input[span.start..span.end]),
-            Cell::CopiedBytes(span) => Some(&self.side[span.start..span.end]),
+            Cell::Bytes(span) => Some(
+                &self.input[span.start as usize..span.end as usize],
+            ),
+            Cell::CopiedBytes(span) => Some(
+                &self.sheet.side.as_slice()[span.start as usize..span.end as usize],
+            ),
             _ => None,
         }
     }
@@ -239,10 +233,10 @@ impl<'a> View<'a> {
         ensures { result ≡ len_of (tree_of self.entry) }
     {
         match self.cell() {
-            Cell::Bytes(span) => span.end - span.start,
-            Cell::CopiedBytes(span) => span.end - span.start,
-            Cell::List(extent) => extent.count,
-            Cell::Map(extent) => extent.count,
+            Cell::Bytes(span) => (span.end - span.start) as usize,
+            Cell::CopiedBytes(span) => (span.end - span.start) as usize,
+            Cell::List(extent) => extent.count as usize,
+            Cell::Map(extent) => extent.count as usize,
             _ => 0,
         }
     }
@@ -267,7 +261,7 @@ impl<'a> View<'a> {
         requires { self.at ≡ 0 }
         ensures { IfOk result (λ k. k ≡ tree_of self.entry) }
     {
-        Kept::new(alloc, self.input, self.side, self.wides, self.cells)
+        Kept::root(alloc, self.input, self.sheet)
     }
 }
 
@@ -276,26 +270,26 @@ fn text_in<'a>(source: &'a [u8], span: Span) -> &'a str
     requires { IsText source.now span }
     ensures { result.now ≡ part source.now span }
 {
-    unsafe { std::str::from_utf8_unchecked(&source[span.start..span.end]) }
+    unsafe { std::str::from_utf8_unchecked(&source[span.start as usize..span.end as usize]) }
 }
 
 /// The items of a list that are left, in order.
 #[derive(Drop)]
 pub struct Items<'a> {
     input: &'a [u8],
-    side: &'a [u8],
-    wides: &'a [Whole],
-    cells: &'a [Cell],
-    at: usize,
-    left: usize,
-    fixed: Option<usize>,
+    sheet: &'a Sheet,
+    fixed: usize,
+    at: u32,
+    left: u32,
+    counts: bool,
 }
 
 impl<'a> Model for Items<'a> {
     ghost use Rattle.std.specs.Prelude.{List, ◌≤◌, length, take, drop};
     ghost use Rattle.std.specs.Coded.{coded_list};
     ghost use Rattle.sw_tree.specs.Seen.{Seen, coded_seen, row};
-    ghost use Rattle.sw_tree.specs.View.{place_in, is_counting};
+    ghost use Rattle.sw_tree.specs.View.{place_in};
+    ghost use Rattle.sw_tree.specs.Sheet.{sheet_store};
 
     ghost Value = { List Seen };
 
@@ -303,9 +297,9 @@ impl<'a> Model for Items<'a> {
 
     ghost use Rattle.sw_tree.specs.Cells.{forest, Formed};
 
-    ghost view = { λ a. row (is_counting a.fixed) (place_in a.fixed a.at) (take a.left (forest (record { input = a.input.now; side = a.side.now; wides = a.wides.now }) (drop a.at a.cells.now))) };
+    ghost view = { λ a. row a.counts (place_in a.counts a.fixed a.at) (take a.left (forest (sheet_store a.input.now a.sheet.now) (drop a.at a.sheet.now.cells.items))) };
 
-    ghost invariant = { λ a. Formed (record { input = a.input.now; side = a.side.now; wides = a.wides.now }) a.cells.now × (a.left ≤ length (forest (record { input = a.input.now; side = a.side.now; wides = a.wides.now }) (drop a.at a.cells.now))) };
+    ghost invariant = { λ a. Formed (sheet_store a.input.now a.sheet.now) a.sheet.now.cells.items × (a.left ≤ length (forest (sheet_store a.input.now a.sheet.now) (drop a.at a.sheet.now.cells.items))) };
 }
 
 impl<'a> Iterator for Items<'a> {
@@ -324,11 +318,10 @@ impl<'a> Iterator for Items<'a> {
         }
         let view = View {
             input: self.input,
-            side: self.side,
-            wides: self.wides,
-            cells: self.cells,
-            at: self.at,
+            sheet: self.sheet,
             fixed: self.fixed,
+            at: self.at,
+            counts: self.counts,
         };
         self.at = view.behind();
         self.left -= 1;
@@ -340,12 +333,11 @@ impl<'a> Iterator for Items<'a> {
 #[derive(Drop)]
 pub struct Entries<'a> {
     input: &'a [u8],
-    side: &'a [u8],
-    wides: &'a [Whole],
-    cells: &'a [Cell],
-    at: usize,
-    left: usize,
-    fixed: Option<usize>,
+    sheet: &'a Sheet,
+    fixed: usize,
+    at: u32,
+    left: u32,
+    counts: bool,
 }
 
 impl<'a> Model for Entries<'a> {
@@ -353,7 +345,8 @@ impl<'a> Model for Entries<'a> {
     ghost use Rattle.std.specs.Coded.{coded_list, coded×};
     ghost use Rattle.sw_tree.specs.Tree.{turns};
     ghost use Rattle.sw_tree.specs.Seen.{Seen, coded_seen, entry_row};
-    ghost use Rattle.sw_tree.specs.View.{place_in, is_counting};
+    ghost use Rattle.sw_tree.specs.View.{place_in};
+    ghost use Rattle.sw_tree.specs.Sheet.{sheet_store};
 
     ghost Value = { List (Seen × Seen) };
 
@@ -361,9 +354,9 @@ impl<'a> Model for Entries<'a> {
 
     ghost use Rattle.sw_tree.specs.Cells.{forest, Formed};
 
-    ghost view = { λ a. entry_row (is_counting a.fixed) (place_in a.fixed a.at) (turns (take (a.left + a.left) (forest (record { input = a.input.now; side = a.side.now; wides = a.wides.now }) (drop a.at a.cells.now)))) };
+    ghost view = { λ a. entry_row a.counts (place_in a.counts a.fixed a.at) (turns (take (a.left + a.left) (forest (sheet_store a.input.now a.sheet.now) (drop a.at a.sheet.now.cells.items)))) };
 
-    ghost invariant = { λ a. Formed (record { input = a.input.now; side = a.side.now; wides = a.wides.now }) a.cells.now × (a.left + a.left ≤ length (forest (record { input = a.input.now; side = a.side.now; wides = a.wides.now }) (drop a.at a.cells.now))) };
+    ghost invariant = { λ a. Formed (sheet_store a.input.now a.sheet.now) a.sheet.now.cells.items × (a.left + a.left ≤ length (forest (sheet_store a.input.now a.sheet.now) (drop a.at a.sheet.now.cells.items))) };
 }
 
 impl<'a> Iterator for Entries<'a> {
@@ -382,19 +375,17 @@ impl<'a> Iterator for Entries<'a> {
         }
         let key = View {
             input: self.input,
-            side: self.side,
-            wides: self.wides,
-            cells: self.cells,
-            at: self.at,
+            sheet: self.sheet,
             fixed: self.fixed,
+            at: self.at,
+            counts: self.counts,
         };
         let value = View {
             input: self.input,
-            side: self.side,
-            wides: self.wides,
-            cells: self.cells,
-            at: key.behind(),
+            sheet: self.sheet,
             fixed: self.fixed,
+            at: key.behind(),
+            counts: self.counts,
         };
         self.at = value.behind();
         self.left -= 1;

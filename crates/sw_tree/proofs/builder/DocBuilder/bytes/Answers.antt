@@ -6,5 +6,5 @@ use Rattle.sw_tree.proofs.builder.DocBuilder.bytes.Goals as goal
 
 pub leaf-requires-clause-proper : goal.leaf-requires-clause-proper
 leaf-requires-clause-proper c =
-    bytes-part c.span_of-span.result.start c.span_of-span.result.end c.args.self.now.input
-    (subst (λ (s : List ℕ). Each (λ b. b < 256) s) (ap (λ (b : Built). b.input) c.self.view_is) c.span_of-span.ensures.small)
+    rw c.in_ok-span_of.ensures (bytes-part c.args.start c.args.end c.args.self.now.input
+    (subst (λ (s : List ℕ). Each (λ b. b < 256) s) (ap (λ (b : Built). b.input) c.self.view_is) c.are_bytes-small.ensures))
