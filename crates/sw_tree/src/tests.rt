@@ -2,8 +2,8 @@ ghost use Rattle.std.specs.Prelude.{◌≡◌, ◌↔◌, IsTrue};
 
 use crate::{
     Content, DeError, DeFail, DeKind, Doc, DocBuilder, Keyed, Kind, Meant, Mode, Node, Place,
-    PrintError, Refusal, SerError, Skipped, Step, View, Whole, WireKind, image, key_number, short_value,
-    node_at, path_of, whole_of_spelling, whole_text,
+    PrintError, Refusal, SerError, Skipped, Step, View, Whole, WireKind, image, key_number,
+    node_at, path_of, short_value, whole_of_spelling, whole_text,
 };
 use std::alloc::{AllocError, Global};
 use std::borrow::{Cow, CowSlice, CowStr};
