@@ -9,11 +9,14 @@ pub mod GrowLemmas
 pub mod ImageLemmas
 pub mod KindsLemmas
 pub mod Lists
+pub mod MovedLemmas
 pub mod NumberLemmas
+pub mod Parts
 pub mod PathLemmas
 pub mod Plains
 pub mod Remaining
 pub mod Rows
+pub mod Runs
 pub mod Shorts
 pub mod Shown
 pub mod Sizes

@@ -1,4 +1,5 @@
 pub mod Mode
+pub mod Moved
 pub mod Whole
 pub mod Number
 pub mod NumberLaws

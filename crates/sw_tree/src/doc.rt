@@ -55,11 +55,7 @@ impl<'de> Doc<'de> {
     {
         Doc {
             input,
-            sheet: Sheet {
-                side,
-                wides,
-                cells,
-            },
+            sheet: Sheet { side, wides, cells },
         }
     }
 

@@ -1,3 +1,4 @@
+use crate::part::{copied_bytes, copied_wides, moved_cells, reach_of, run_at};
 use crate::sheet::Sheet;
 use crate::view::View;
 use std::alloc::{AllocError, Global};
@@ -26,9 +27,10 @@ impl Model for Kept {
 }
 
 impl Kept {
-    ghost use Rattle.std.specs.Prelude.{◌≡◌, true, IfOk};
+    ghost use Rattle.std.specs.Prelude.{◌≡◌, ◌<◌, ◌+◌, true, IfOk, length, get_or, drop};
     ghost use Rattle.sw_tree.specs.View.{seen};
-    ghost use Rattle.sw_tree.specs.Cells.{Formed};
+    ghost use Rattle.sw_tree.specs.Cells.{Formed, forest, first, below};
+    ghost use Rattle.sw_tree.specs.declared.cell.Cell.TheVariants.{Null};
     ghost use Rattle.sw_tree.specs.Sheet.{sheet_store, sheet_tree};
 
     /// The document of that input and sheet, copied.
@@ -39,6 +41,38 @@ impl Kept {
         Ok(Kept {
             input: Vec::from_slice(alloc, input)?,
             sheet: sheet.copy(alloc)?,
+        })
+    }
+
+    /// The document of a node's cells alone, those from `at` to `end`, copied with the ranges
+    /// that they point into.
+    pub(crate) fn part(
+        alloc: Global,
+        input: &[u8],
+        sheet: &Sheet,
+        at: u32,
+        end: u32,
+    ) -> Result<Kept, AllocError>
+        requires formed { Formed (sheet_store input.now sheet.now) sheet.now.cells.items }
+        requires inside { at < length sheet.now.cells.items }
+        requires all { end ≡ at + 1 + below (get_or sheet.now.cells.items at Null) }
+        ensures { IfOk
+            result
+            (λ k. k ≡ first (forest (sheet_store input.now sheet.now) (drop at sheet.now.cells.items))) }
+    {
+        let run = run_at(sheet.cells.as_slice(), at, end);
+        let reach = reach_of(run);
+        let own_input = copied_bytes(alloc, input, reach.input)?;
+        let own_side = copied_bytes(alloc, sheet.side.as_slice(), reach.side)?;
+        let own_wides = copied_wides(alloc, sheet.wides.as_slice(), reach.wides)?;
+        let own_cells = moved_cells(alloc, reach, run)?;
+        Ok(Kept {
+            input: own_input,
+            sheet: Sheet {
+                side: own_side,
+                wides: own_wides,
+                cells: own_cells,
+            },
         })
     }
 

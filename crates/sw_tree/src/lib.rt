@@ -25,6 +25,7 @@ pub mod node;
 pub mod node_builder;
 pub mod number;
 mod ordered;
+mod part;
 pub mod path;
 mod ranges;
 pub mod ranked;

@@ -305,6 +305,36 @@ fn copies_are_equal(rt: HostRuntime) {
     assert!(rt; matches!(stays(rt.alloc()), Ok(true)));
 }
 
+fn is_small_map(view: View<'_>) -> bool {
+    let Some(mut entries) = view.entries() else {
+        return false;
+    };
+    matches!(entries.next(), Some((key, value)) if key.as_text() == Some("k") && value.as_text() == Some("é"))
+        && matches!(entries.next(), None)
+}
+
+/// Whether the map in the document, copied, is a document of its own.
+fn part_stays(alloc: Global) -> Result<bool, AllocError> {
+    let doc = document(alloc)?;
+    let Some(items) = doc.view().items() else {
+        return Ok(false);
+    };
+    for item in items {
+        if item.kind() == Kind::Map {
+            let part = item.to_node(alloc)?.copy(alloc)?;
+            return Ok(
+                matches!(part.content(), Content::Document(view) if is_small_map(view) && view.place() == 0),
+            );
+        }
+    }
+    Ok(false)
+}
+
+#[test]
+fn copied_part_is_a_document(rt: HostRuntime) {
+    assert!(rt; matches!(part_stays(rt.alloc()), Ok(true)));
+}
+
 /// The key text of the image on JSON of a map with that one key.
 fn key_text(alloc: Global, key: Node) -> Result<Option<String>, PrintError> {
     let mut pairs = Vec::new(alloc);

@@ -7,7 +7,7 @@ use crate::kept::Kept;
 use crate::mode::Kind;
 use crate::node::Node;
 use crate::sheet::Sheet;
-use crate::to_node::node_of;
+use crate::to_node::leaf_of;
 use crate::whole::Whole;
 use std::alloc::{AllocError, Global};
 use std::marker::Model;
@@ -30,12 +30,12 @@ pub struct View<'a> {
 const _: () = prove!(size_of::<View<'static>>() == 40);
 
 impl<'a> View<'a> {
-    ghost use Rattle.std.specs.Prelude.{◌+◌, List, ◌∷◌, drop, Some, true, false, option_map};
+    ghost use Rattle.std.specs.Prelude.{◌+◌, List, ◌∷◌, drop, get_or, Some, true, false, option_map};
     ghost use Rattle.std.specs.Option.{option_copied};
     ghost use Rattle.sw_tree.specs.Tree.{depth, size, kind_of, items_at, len_of, text_at, bytes_at, truth_at, int_at, pairs_at};
     ghost use Rattle.sw_tree.specs.Proper.{IsProper};
     ghost use Rattle.sw_tree.specs.Short.{IsShort};
-    ghost use Rattle.sw_tree.specs.Cells.{IsFine, arity, tree_at, forest};
+    ghost use Rattle.sw_tree.specs.Cells.{IsFine, arity, below, tree_at, forest};
     ghost use Rattle.sw_tree.specs.Seen.{Seen, items_seen, entries_seen};
     ghost use Rattle.sw_tree.specs.Sheet.{sheet_store, sheet_tree};
     ghost use Rattle.sw_tree.specs.View.{seen, tree_of, place_in, store_of};
@@ -120,6 +120,7 @@ impl<'a> View<'a> {
     pub(crate) fn behind(self) -> u32
         ensures next { forest (store_of self.entry) (drop self.entry.at self.entry.sheet.now.cells.items) ≡ tree_of self.entry ∷ forest (store_of self.entry) (drop result self.entry.sheet.now.cells.items) }
         ensures place { result ≡ self.entry.at + size (tree_of self.entry) }
+        ensures all { result ≡ self.entry.at + 1 + below (get_or self.entry.sheet.now.cells.items self.entry.at Cell.Null) }
     {
         self.at + 1 + self.sheet.cell(self.at).below()
     }
@@ -207,9 +208,7 @@ impl<'a> View<'a> {
         ensures { option_copied result ≡ bytes_at (tree_of self.entry) }
     {
         match self.cell() {
-            Cell::Bytes(span) => Some(
-                &self.input[span.start as usize..span.end as usize],
-            ),
+            Cell::Bytes(span) => Some(&self.input[span.start as usize..span.end as usize]),
             Cell::CopiedBytes(span) => Some(
                 &self.sheet.side.as_slice()[span.start as usize..span.end as usize],
             ),
@@ -245,23 +244,23 @@ impl<'a> View<'a> {
     pub fn to_node(self, alloc: Global) -> Result<Node, AllocError>
         ensures { IfOk result (λ n. n ≡ tree_of self.entry) }
     {
-        if self.at != 0 {
-            return node_of(alloc, self);
-        }
-        // A root with parts is copied as a document, which is a few blocks of memory, and its copies share it.
+        // A list or map is copied as a document, which is a few blocks of memory, and its copies share it.
         match self.kind() {
             Kind::List | Kind::Map => Node::kept(alloc, self.kept(alloc)?),
-            _ => node_of(alloc, self),
+            _ => leaf_of(alloc, self),
         }
     }
 
-    /// The document of a root, copied.
+    /// The document of the node alone, copied.
     #[tactic(auto, unfolding(crate::specs::View::seen))]
     fn kept(self, alloc: Global) -> Result<Kept, AllocError>
-        requires { self.at ≡ 0 }
         ensures { IfOk result (λ k. k ≡ tree_of self.entry) }
     {
-        Kept::root(alloc, self.input, self.sheet)
+        if self.at == 0 {
+            Kept::root(alloc, self.input, self.sheet)
+        } else {
+            Kept::part(alloc, self.input, self.sheet, self.at, self.behind())
+        }
     }
 }
 
