@@ -1,5 +1,5 @@
 -- The digits of a number stand for themselves in a text.
-use Rattle.std.proofs.Common.{◌≡◌, ℕ, suc, zero, ◌+◌, ◌/◌, ◌%◌, ◌<◌, ℤ, pos, negsuc, Bool, true, false, cond, eqb, ltb, leb, List, [], ◌∷◌, ◌++◌, refl, ap, sym, subst, ◌∙◌, arith, Some, Result}
+use Rattle.std.proofs.Common.{◌≡◌, ℕ, suc, zero, ◌+◌, ◌/◌, ◌%◌, ◌<◌, ◌^◌, ℤ, pos, negsuc, Bool, true, false, cond, eqb, ltb, leb, List, [], ◌∷◌, ◌++◌, refl, ap, sym, subst, ◌∙◌, arith, Some, None, Result}
 use Rattle.std.proofs.lemmas.Bool.Decides.{nat_tests}
 use Rattle.std.specs.Fmt.{digits, digits_onto, digit_glyph, decimal, signed_decimal}
 use Rattle.sw_tree.specs.Tree.{int, text}
@@ -9,6 +9,12 @@ use Rattle.sw_json.specs.Pushed.{IsPushed}
 use Rattle.sw_tree.specs.declared.fail.PrintError.{PrintError}
 use Rattle.sw_json.specs.Laws.Texts.{quoted_text}
 use Rattle.sw_json.proofs.Runs.{escape_plain}
+use Rattle.std.proofs.lemmas.List.{append-nil}
+use Rattle.sw_tree.specs.Whole.{signed_of}
+use Rattle.sw_json.specs.declared.turn.Turn.{Turn}
+use Rattle.sw_json.specs.declared.turn.Turn.TheVariants.{Root, First, Item, FirstKey, Key, Value}
+use Rattle.sw_json.specs.Turns.{is_key, separator, piece}
+use Rattle.sw_json.specs.Pushed.{joined}
 
 -- a text that needs no escape
 abbrev IsOwn : List ℕ → Type 0
@@ -55,3 +61,41 @@ digits_text n s e =
 
 pub digits_pushed : (x : Result (Unit {0}) PrintError) (before after s : List ℕ) (n : ℤ) → s ≡ signed_decimal n → IsPushed x before after (Some (34 ∷ s ++ 34 ∷ [])) → IsPushed x before after (key_text (int n))
 digits_pushed x before after s n e h = subst (IsPushed x before after) (digits_text n s e) h
+
+-- a text is the same as a key and elsewhere
+pub same_text : (turn : Turn) (s : List ℕ) → json_text (text s) ≡ piece turn (text s)
+same_text Root s = refl
+same_text First s = refl
+same_text Item s = refl
+same_text FirstKey s = refl
+same_text Key s = refl
+same_text Value s = refl
+
+same_key : (turn : Turn) (n : ℤ) → is_key turn ≡ true → json_text (text (signed_decimal n)) ≡ piece turn (int n)
+same_key Root n h = cc
+same_key First n h = cc
+same_key Item n h = cc
+same_key FirstKey n h = refl
+same_key Key n h = refl
+same_key Value n h = cc
+
+-- a text between quotes that needs no escape, behind the separator
+pub text_part : (turn : Turn) (s t : List ℕ) → Some (34 ∷ (s ++ 34 ∷ [])) ≡ json_text (text t) → Some (separator turn ++ 34 ∷ (s ++ 34 ∷ [])) ≡ joined (Some (separator turn)) (piece turn (text t))
+text_part turn s t e = ap (joined (Some (separator turn))) (e ∙ same_text turn t)
+
+-- the digits as a text, behind the separator
+pub digits_part : (turn : Turn) (n : ℤ) → Some (separator turn ++ 34 ∷ (signed_decimal n ++ 34 ∷ [])) ≡ joined (Some (separator turn)) (piece turn (text (signed_decimal n)))
+digits_part turn n = text_part turn (signed_decimal n) (signed_decimal n) (digits_text n (signed_decimal n) refl)
+
+-- the number as a key, behind the separator
+pub key_part : (turn : Turn) (n : ℤ) → is_key turn ≡ true → Some (separator turn ++ 34 ∷ (signed_decimal n ++ 34 ∷ [])) ≡ joined (Some (separator turn)) (piece turn (int n))
+key_part turn n h = ap (joined (Some (separator turn))) (digits_text n (signed_decimal n) refl ∙ same_key turn n h)
+
+signed_at : (b : Bool) (z y : ℤ) → cond b (Some z) None ≡ Some y → y ≡ z
+signed_at true z y h = cc
+signed_at false z y h = cc
+
+-- what has few bits is the number itself
+pub signed_is : (k : ℕ) (z y : ℤ) → signed_of k z ≡ Some y → y ≡ z
+signed_is k (pos n) y h = signed_at (ltb n (2 ^ k)) (pos n) y h
+signed_is k (negsuc n) y h = signed_at (ltb n (2 ^ k)) (negsuc n) y h

@@ -27,9 +27,10 @@ pub(crate) fn append(out: &mut Vec<u8>, bytes: &[u8]) -> Result<(), PrintError>
 pub(crate) fn append_byte(out: &mut Vec<u8>, byte: u8) -> Result<(), PrintError>
     ensures { IsPushed result out.old.items out.new.items (Some (byte ∷ [])) }
 {
-    if out.push(byte).is_err() {
+    if out.reserve(1).is_err() {
         return Err(PrintError::Memory);
     }
+    out.push_reserved(byte);
     Ok(())
 }
 
@@ -120,7 +121,7 @@ pub(crate) fn push_text(out: &mut Vec<u8>, content: &str) -> Result<(), PrintErr
 
 /// Appends the bytes between quotes.
 #[inline]
-fn push_plain(out: &mut Vec<u8>, bytes: &[u8]) -> Result<(), PrintError>
+pub(crate) fn push_plain(out: &mut Vec<u8>, bytes: &[u8]) -> Result<(), PrintError>
     ensures { IsPushed result out.old.items out.new.items (Some (34 ∷ bytes.now ++ 34 ∷ [])) }
 {
     append_byte(out, b'"')?;

@@ -6,6 +6,7 @@ mod class;
 mod leaf;
 mod level;
 mod lexer;
+mod numeral;
 mod piece;
 mod place;
 mod plain;
