@@ -9,7 +9,6 @@ use Rattle.sw_json.specs.Pushed.{IsPushed}
 use Rattle.sw_tree.specs.declared.fail.PrintError.{PrintError}
 use Rattle.sw_json.specs.Laws.Texts.{quoted_text}
 use Rattle.sw_json.proofs.Runs.{escape_plain}
-use Rattle.std.proofs.lemmas.List.{append-nil}
 use Rattle.sw_tree.specs.Whole.{signed_of}
 use Rattle.sw_json.specs.declared.turn.Turn.{Turn}
 use Rattle.sw_json.specs.declared.turn.Turn.TheVariants.{Root, First, Item, FirstKey, Key, Value}

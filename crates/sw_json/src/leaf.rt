@@ -121,7 +121,7 @@ pub(crate) fn push_text(out: &mut Vec<u8>, content: &str) -> Result<(), PrintErr
 
 /// Appends the bytes between quotes.
 #[inline]
-pub(crate) fn push_plain(out: &mut Vec<u8>, bytes: &[u8]) -> Result<(), PrintError>
+fn push_plain(out: &mut Vec<u8>, bytes: &[u8]) -> Result<(), PrintError>
     ensures { IsPushed result out.old.items out.new.items (Some (34 ∷ bytes.now ++ 34 ∷ [])) }
 {
     append_byte(out, b'"')?;
