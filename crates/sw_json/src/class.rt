@@ -4,6 +4,7 @@ ghost use Rattle.std.specs.Prelude.{◌≡◌};
 ghost use Rattle.sw_json.specs.Bytes as tests;
 ghost use Rattle.sw_json.specs.Bytes.{front, behind};
 ghost use Rattle.sw_json.specs.Class.{test_of};
+ghost use Rattle.sw_json.specs.Grammar.{skip};
 
 /// A class of bytes that come in runs.
 #[derive(Clone, Copy)]
@@ -63,4 +64,18 @@ pub(crate) fn split_class(bytes: &[u8], class: Class) -> (&[u8], &[u8])
         }
     }
     bytes.split_at(bytes.len())
+}
+
+/// What is behind the blanks in front.
+#[inline(always)]
+pub(crate) fn skip_blanks(bytes: &[u8]) -> &[u8]
+    ensures { result.now ≡ skip bytes.now }
+{
+    let Some((first, _)) = bytes.split_first() else {
+        return bytes;
+    };
+    if *first > b' ' {
+        return bytes;
+    }
+    split_class(bytes, Class::Blank).1
 }

@@ -11,6 +11,7 @@ mod place;
 mod plain;
 mod print;
 mod print_view;
+mod quick;
 mod quoted;
 mod reader;
 mod shown;
