@@ -1,5 +1,5 @@
 -- The usual tokens, each of them read and built in one step.
-use Rattle.std.proofs.Common.{◌≡◌, ℕ, ◌+◌, ◌-◌, List, [], ◌∷◌, length, Option, Some, None, true, false, cond, refl, sym, ap, subst, ◌∙◌}
+use Rattle.std.proofs.Common.{◌≡◌, ℕ, ◌+◌, ◌-◌, List, [], ◌∷◌, length, Option, Some, None, ℤ, true, false, cond, refl, sym, ap, subst, ◌∙◌}
 use denote.Ref.{Bor}
 use Rattle.std.specs.Prelude.{slice_range, is_some}
 use Rattle.std.specs.Option.{option_or}
@@ -7,12 +7,15 @@ use Rattle.std.specs.Str.{IsUtf8}
 use Rattle.sw_tree.specs.Tree as tree
 use Rattle.sw_tree.specs.Builder.{Built, added, longer}
 use Rattle.sw_tree.specs.declared.fail.WireError.{WireError}
+use Rattle.sw_tree.specs.Number.{key_number}
+use Rattle.sw_tree.specs.Faults.{int_of}
+use Rattle.sw_json.specs.Short.{IsShort}
 use Rattle.sw_json.specs.Token.{Quote, Token}
 use Rattle.sw_json.specs.Bytes.{is_plain, front, behind}
 use Rattle.sw_json.specs.Quoted.{has_escape}
 use Rattle.sw_json.specs.Grammar.{skip}
 use Rattle.sw_json.specs.Lexing.{lexeme, next_token, text_token}
-use Rattle.sw_json.specs.Building.{CanBuild, Builds}
+use Rattle.sw_json.specs.Building.{CanBuild, Builds, number_fault_of}
 use Rattle.sw_json.specs.Quick.{CanTake, Took, Takes}
 use Rattle.sw_json.specs.Place.{place_step}
 use Rattle.sw_json.specs.declared.place.Place.{Place}
@@ -58,6 +61,10 @@ some_fault : (o : Option WireError) → true ≡ is_some o → o ≡ None → �
 some_fault None h e = cc
 some_fault (Some x) h e = cc
 
+still_faulty : (o f : Option WireError) → true ≡ is_some o → o ≡ option_or o f
+still_faulty None f h = cc
+still_faulty (Some x) f h = refl
+
 -- nothing is built after a fault
 text_passed : (fault : Option WireError) (depth at : ℕ) (text : List ℕ) (b : Built) → true ≡ is_some fault → Builds fault fault depth (plain_text at text) b b
 text_passed fault depth at text b h = record { fault = or_none fault; built = λ e. absurd (some_fault fault h e) }
@@ -90,6 +97,32 @@ module _ (at : ℕ) (place : Place) (opens : List Open) (bytes text rest : List 
     found = text_found at bytes text rest run met utf8;
     leads = leads opens (record { at = at; spelling = text; text = text });
     builds = text_built fault (length opens) at text b c (run_unslashed bytes text run) (text_can h).fits.part e;
+  }
+
+-- a short number in front
+module _ (at : ℕ) (place : Place) (opens : List Open) (bytes : List ℕ) (n : ℤ) (rest : List ℕ) (fault : Option WireError) (b : Built) (next : Place)
+    (can : CanTake at place opens bytes fault b) (short : IsShort bytes n rest)
+    (leads : (os : List Open) (at : ℕ) (s : List ℕ) → place_step place os (Token.number at s) ≡ Some (next, os)) where
+  pub number_can : false ≡ is_some fault → CanBuild (length opens) (Token.number at short.spelling) b
+  number_can h = can (Token.number at short.spelling) rest next (short.found at) (leads opens at short.spelling) (no_fault fault h)
+
+  pub number_unbuilt : true ≡ is_some fault → Took at place opens bytes fault b b next rest
+  number_unbuilt h = record {
+    token = Token.number at short.spelling;
+    found = short.found at;
+    leads = leads opens at short.spelling;
+    builds = record { fault = still_faulty fault (number_fault_of at (key_number short.spelling)) h; built = λ e. absurd (some_fault fault h e) };
+  }
+
+  pub number_took : (c : Built) → false ≡ is_some fault → c ≡ added b (tree.int n) → Took at place opens bytes fault b c next rest
+  number_took c h e = record {
+    token = Token.number at short.spelling;
+    found = short.found at;
+    leads = leads opens at short.spelling;
+    builds = record {
+      fault = or_none fault ∙ ap (λ (x : Option ℤ). option_or fault (number_fault_of at x)) (sym short.value);
+      built = λ z. e ∙ ap (λ (x : Option ℤ). added b (tree.int (int_of x))) (sym short.value);
+    };
   }
 
 -- the bytes begin with a quotation mark

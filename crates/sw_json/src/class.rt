@@ -27,7 +27,7 @@ fn is_blank(byte: u8) -> bool
 
 #[inline(always)]
 #[tactic(auto, unfolding(crate::specs::Bytes::is_digit))]
-fn is_digit(byte: u8) -> bool
+pub(crate) fn is_digit(byte: u8) -> bool
     ensures { result ≡ tests.is_digit byte }
 {
     b'0' <= byte && byte <= b'9'
@@ -35,7 +35,7 @@ fn is_digit(byte: u8) -> bool
 
 #[inline(always)]
 #[tactic(auto, unfolding(crate::specs::Bytes::is_number_byte))]
-fn is_number_byte(byte: u8) -> bool
+pub(crate) fn is_number_byte(byte: u8) -> bool
     ensures { result ≡ tests.is_number_byte byte }
 {
     is_digit(byte) || byte == b'+' || byte == b'-' || byte == b'.' || byte == b'E' || byte == b'e'

@@ -14,6 +14,7 @@ mod print_view;
 mod quick;
 mod quoted;
 mod reader;
+mod short;
 mod shown;
 pub mod spelling;
 mod turn;
