@@ -3,6 +3,8 @@ pub mod Unescapes
 pub mod ReadQuoted
 pub mod Standing
 pub mod Stands
+pub mod ShortNumbers
+pub mod Taking
 pub mod Pushing
 pub mod Runs
 pub mod Stops

@@ -16,6 +16,8 @@ pub mod Text
 pub mod Lexeme
 pub mod Place
 pub mod Building
+pub mod Short
+pub mod Quick
 pub mod Pushed
 pub mod Turns
 pub mod Written

@@ -4,6 +4,7 @@ ghost use Rattle.std.specs.Prelude.{◌≡◌};
 ghost use Rattle.sw_json.specs.Bytes as tests;
 ghost use Rattle.sw_json.specs.Bytes.{front, behind};
 ghost use Rattle.sw_json.specs.Class.{test_of};
+ghost use Rattle.sw_json.specs.Grammar.{skip};
 
 /// A class of bytes that come in runs.
 #[derive(Clone, Copy)]
@@ -26,7 +27,7 @@ fn is_blank(byte: u8) -> bool
 
 #[inline(always)]
 #[tactic(auto, unfolding(crate::specs::Bytes::is_digit))]
-fn is_digit(byte: u8) -> bool
+pub(crate) fn is_digit(byte: u8) -> bool
     ensures { result ≡ tests.is_digit byte }
 {
     b'0' <= byte && byte <= b'9'
@@ -34,7 +35,7 @@ fn is_digit(byte: u8) -> bool
 
 #[inline(always)]
 #[tactic(auto, unfolding(crate::specs::Bytes::is_number_byte))]
-fn is_number_byte(byte: u8) -> bool
+pub(crate) fn is_number_byte(byte: u8) -> bool
     ensures { result ≡ tests.is_number_byte byte }
 {
     is_digit(byte) || byte == b'+' || byte == b'-' || byte == b'.' || byte == b'E' || byte == b'e'
@@ -63,4 +64,18 @@ pub(crate) fn split_class(bytes: &[u8], class: Class) -> (&[u8], &[u8])
         }
     }
     bytes.split_at(bytes.len())
+}
+
+/// What is behind the blanks in front.
+#[inline(always)]
+pub(crate) fn skip_blanks(bytes: &[u8]) -> &[u8]
+    ensures { result.now ≡ skip bytes.now }
+{
+    let Some((first, _)) = bytes.split_first() else {
+        return bytes;
+    };
+    if *first > b' ' {
+        return bytes;
+    }
+    split_class(bytes, Class::Blank).1
 }

@@ -30,7 +30,7 @@ pub enum Lexeme<'a> {
 
 #[inline(always)]
 #[tactic(auto, unfolding(crate::specs::Bytes::is_leading))]
-fn is_leading(byte: u8) -> bool
+pub(crate) fn is_leading(byte: u8) -> bool
     ensures { result ≡ tests.is_leading byte }
 {
     b'1' <= byte && byte <= b'9'

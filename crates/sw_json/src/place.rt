@@ -1,6 +1,7 @@
 //! What may come next.
 
-ghost use Rattle.std.specs.Prelude.{◌≡◌, ℕ, List, IfOk, reverse};
+ghost use Rattle.std.specs.Prelude.{◌≡◌, ℕ, List, IfOk, IfSome, Some, reverse};
+ghost use Rattle.sw_json.specs.Token.{Quote, Token};
 ghost use Rattle.sw_json.specs.Lexeme.{token_of};
 ghost use Rattle.sw_json.specs.Place.{place_step, place_value, place_end, Leads};
 
@@ -110,6 +111,61 @@ fn after_step(levels: &mut Vec<Open>, lexeme: &Lexeme<'_>) -> Option<Place>
             Lexeme::Comma => Some(Place::Name),
             _ => None,
         },
+    }
+}
+
+/// Where a comma leads to; `None` where it can't come.
+#[inline(always)]
+pub(crate) fn behind_comma(levels: &Vec<Open>, place: Place) -> Option<Place>
+    ensures { IfSome result (λ p. place_step place (reverse levels.now.items) Token.comma ≡ Some (p, reverse levels.now.items)) }
+{
+    match place {
+        Place::After => {
+            let innermost = *levels.last()?;
+            match innermost {
+                Open::List => Some(Place::Value),
+                Open::Map => Some(Place::Name),
+            }
+        }
+        _ => None,
+    }
+}
+
+/// Where a colon leads to; `None` where it can't come.
+#[inline(always)]
+pub(crate) fn behind_colon(place: Place) -> Option<Place>
+    ensures { IfSome result (λ p. (os : List Open) → place_step place os Token.colon ≡ Some (p, os)) }
+{
+    match place {
+        Place::Colon => Some(Place::Value),
+        _ => None,
+    }
+}
+
+/// Where a text leads to; `None` where it can't come.
+#[inline(always)]
+pub(crate) fn behind_text(place: Place) -> Option<Place>
+    ensures { IfSome result (λ p. (os : List Open) (q : Quote) → place_step place os (Token.text q) ≡ Some (p, os)) }
+{
+    match place {
+        Place::Value => Some(Place::After),
+        Place::FreshList => Some(Place::After),
+        Place::FreshMap => Some(Place::Colon),
+        Place::Name => Some(Place::Colon),
+        Place::Colon => None,
+        Place::After => None,
+    }
+}
+
+/// Where a number leads to; `None` where it can't come.
+#[inline(always)]
+pub(crate) fn behind_number(place: Place) -> Option<Place>
+    ensures { IfSome result (λ p. (os : List Open) (at : ℕ) (s : List ℕ) → place_step place os (Token.number at s) ≡ Some (p, os)) }
+{
+    match place {
+        Place::Value => Some(Place::After),
+        Place::FreshList => Some(Place::After),
+        _ => None,
     }
 }
 

@@ -8,7 +8,7 @@ ghost use Rattle.sw_json.specs.Quoted.{hex, hex_at, low_at, unit_at, escape_at, 
 ghost use Rattle.sw_json.specs.QuotedParts.{spelling_in, text_in, is_escaped, parts};
 ghost use Rattle.sw_json.specs.Unescaping.{unescaped};
 
-use crate::plain::{split_ascii_text, split_plain};
+use crate::plain::split_plain;
 use std::alloc::AllocError;
 
 /// A text that stood between quotation marks.
@@ -185,24 +185,8 @@ fn escaped<'a>(
 ///
 /// A text without a backslash is a part of the bytes, and takes no memory. Another is decoded into the buffer, in
 /// place of what was there. The one refusal is want of memory for that; what is in the buffer then is left open.
-pub(crate) fn read_quoted<'a>(
-    buffer: &mut Vec<u8>,
-    bytes: &'a [u8],
-) -> Result<Option<(Quoted<'a>, &'a [u8])>, AllocError>
-    ensures value { IfOk result (λ o. option_map (λ x. parts buffer.new.items x.0 x.1.now) o
-        ≡ quoted bytes.now) }
-    ensures utf8 { IfOk result (λ o. IfSome o (λ x. IsUtf8 (text_in buffer.new.items x.0))) }
-    ensures variant { IfOk result (λ o. IfSome o (λ x. is_escaped x.0 ≡ has_escape (spelling_in x.0))) }
-{
-    if let Some((text, rest)) = split_ascii_text(bytes) {
-        return Ok(Some((Quoted::Plain(text), rest)));
-    }
-    read_by_runs(buffer, bytes)
-}
-
-/// The same of any text.
 #[inline(never)]
-fn read_by_runs<'a>(
+pub(crate) fn read_quoted<'a>(
     buffer: &mut Vec<u8>,
     bytes: &'a [u8],
 ) -> Result<Option<(Quoted<'a>, &'a [u8])>, AllocError>

@@ -5,9 +5,10 @@ ghost use Rattle.sw_tree.specs.Wires.{IsFound, SpellsTree, IsRefused};
 ghost use Rattle.sw_json.specs.Spelled.{spells, spelled, HasEscaped};
 
 use crate::building::keep;
-use crate::class::{Class, split_class};
+use crate::class::skip_blanks;
 use crate::lexer::read_lexeme;
 use crate::place::{Place, is_end, step};
+use crate::quick::take;
 use std::alloc::Global;
 use sw_tree::builder::DocBuilder;
 use sw_tree::doc::Doc;
@@ -37,9 +38,18 @@ pub fn read_tree<'de>(alloc: Global, bytes: &'de [u8]) -> Result<Doc<'de>, WireE
         return Err(WireError::Memory);
     }
     'tokens: loop {
-        let (_, ahead) = split_class(rest, Class::Blank);
+        let ahead = skip_blanks(rest);
         if ahead.is_empty() {
             break;
+        }
+        let at = bytes.len() - ahead.len();
+        let Ok(taken) = take(&mut builder, &levels, place, fault, at, ahead) else {
+            return Err(WireError::Memory);
+        };
+        if let Some((next, behind)) = taken {
+            rest = behind;
+            place = next;
+            continue;
         }
         let Ok(token) = read_lexeme(&mut buffer, ahead) else {
             return Err(WireError::Memory);
@@ -54,7 +64,6 @@ pub fn read_tree<'de>(alloc: Global, bytes: &'de [u8]) -> Result<Doc<'de>, WireE
         let Some(next) = stepped else {
             return Err(WireError::Syntax);
         };
-        let at = bytes.len() - ahead.len();
         let Ok(first) = keep(&mut builder, fault, at, depth, &lexeme, &buffer) else {
             return Err(WireError::Memory);
         };

@@ -1,7 +1,7 @@
 ghost use Rattle.std.specs.Prelude.{◌≡◌, ◌↔◌, IsTrue};
 
 use crate::{
-    Content, DeError, DeFail, DeKind, Doc, DocBuilder, Keyed, Kind, Meant, Mode, Node, Place,
+    DeError, DeFail, DeKind, Doc, DocBuilder, Keyed, Kind, Meant, Mode, Node, Place,
     PrintError, Refusal, SerError, Skipped, Step, View, Whole, WireKind, image, key_number,
     node_at, path_of, short_value, whole_of_spelling, whole_text,
 };
