@@ -1,5 +1,5 @@
 -- Cells that are moved to where their ranges begin mean what they meant.
-use Rattle.std.proofs.Common.{ℕ, ℤ, pos, zero, suc, ◌+◌, ◌-◌, ◌≤◌, ◌<◌, ◌≡◌, List, [], ◌∷◌, length, take, drop, get_or, map, refl, sym, ap, subst, ◌∙◌, arith, add-one, length-drop}
+use Rattle.std.proofs.Common.{ℕ, pos, zero, suc, ◌+◌, ◌-◌, ◌≤◌, ◌<◌, ◌≡◌, List, [], ◌∷◌, length, drop, get_or, map, refl, sym, ap, subst, arith, add-one, length-drop}
 use Rattle.std.proofs.lemmas.List.{length-map, take-take, length-take-le, drop-take, drop-drop, drop-map, get_or-take, get_or-drop}
 use Rattle.std.proofs.Math.ListN.{drop_of_length-le}
 use Rattle.std.proofs.Math.Seq.{drop-cons}
@@ -14,8 +14,8 @@ use Rattle.sw_tree.specs.Steps.{Each}
 use Rattle.sw_tree.specs.Tree as tree
 use Rattle.sw_tree.specs.Tree.{Tree, depth}
 use Rattle.sw_tree.specs.Proper.{IsProper}
-use Rattle.sw_tree.specs.Cells.{Store, Formed, Fits, IsFine, IsPart, IsText, part, forest, first, arity, below, tree_at}
-use Rattle.sw_tree.specs.Moved.{joined, widened, reach_from, nothing, settled, all_settled, reach_of, moved_span, moved, cut}
+use Rattle.sw_tree.specs.Cells.{Store, Formed, IsFine, IsPart, IsText, part, forest, arity, below, tree_at}
+use Rattle.sw_tree.specs.Moved.{joined, widened, reach_from, nothing, all_settled, reach_of, moved_span, moved, cut}
 use Rattle.sw_tree.proofs.CellLemmas.{Formed-drop}
 
 pub record Lies (r : Stretch) (start end : ℕ) : Type 0 where

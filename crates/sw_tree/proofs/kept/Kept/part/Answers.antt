@@ -2,7 +2,6 @@ use Rattle.std.proofs.Common.{◌≡◌, List, ap, ◌∙◌, arith}
 use Rattle.std.specs.Prelude.{slice_range}
 use Rattle.sw_tree.specs.declared.cell.Cell.{Cell}
 use Rattle.sw_tree.specs.declared.cell.Cell.TheVariants.{Null}
-use Rattle.sw_tree.specs.Tree.{Tree}
 use Rattle.sw_tree.specs.Cells.{first}
 use Rattle.sw_tree.specs.Sheet.{sheet_store}
 use Rattle.sw_tree.proofs.Parts.{cut_at, stop_inside}
