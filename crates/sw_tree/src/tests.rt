@@ -1,9 +1,11 @@
 ghost use Rattle.std.specs.Prelude.{◌≡◌, ◌↔◌, IsTrue};
 
+use crate::content::Content;
 use crate::{
-    DeError, DeFail, DeKind, Doc, DocBuilder, Keyed, Kind, Meant, Mode, Node, Place,
-    PrintError, Refusal, SerError, Skipped, Step, View, Whole, WireKind, image, key_number,
-    node_at, path_of, short_value, whole_of_spelling, whole_text,
+    DeError, DeFail, DeKind, Doc, DocBuilder, Keyed, Kind, Meant, Mode, Node, NodeBuilder, Place,
+    PrintError, Refusal, SerError, SerFail, Skipped, Step, View, Whole, WireKind, foreign_in,
+    image, key_number, node_at, path_of, short_value, whole_of_spelling, whole_text, write_node,
+    write_view,
 };
 use std::alloc::{AllocError, Global};
 use std::borrow::{Cow, CowSlice, CowStr};
@@ -303,6 +305,90 @@ fn stays(alloc: Global) -> Result<bool, AllocError> {
 #[test]
 fn copies_are_equal(rt: HostRuntime) {
     assert!(rt; matches!(stays(rt.alloc()), Ok(true)));
+}
+
+/// The list in that document, written from a node made by hand, from one that is kept, and from what the view shows.
+fn written(alloc: Global, doc: &Doc<'_>) -> Result<Option<[Node; 3]>, SerFail> {
+    let (Ok(made), Ok(kept)) = (small_list(alloc), doc.view().to_node(alloc)) else {
+        return Err(SerFail::Memory);
+    };
+    let mut first = NodeBuilder::new(alloc);
+    write_node(&mut first, &made)?;
+    let mut second = NodeBuilder::new(alloc);
+    write_node(&mut second, &kept)?;
+    let mut third = NodeBuilder::new(alloc);
+    write_view(&mut third, &doc.view())?;
+    match (first.finish(), second.finish(), third.finish()) {
+        (Some(first), Some(second), Some(third)) => Ok(Some([first, second, third])),
+        _ => Ok(None),
+    }
+}
+
+#[test]
+fn a_tree_is_written_whole(rt: HostRuntime) -> Result<(), AllocError> {
+    let list = small_list(rt.alloc())?;
+    let doc = Doc::from_node(rt.alloc(), &list)?;
+    let Ok(Some(nodes)) = written(rt.alloc(), &doc) else {
+        assert!(rt; false);
+        return Ok(());
+    };
+    for node in &nodes {
+        assert!(rt; is_small_list(Doc::from_node(rt.alloc(), node)?.view()));
+    }
+    Ok(())
+}
+
+/// Null and then the byte string of one byte.
+fn null_and_bytes(alloc: Global) -> Result<Vec<Node>, AllocError> {
+    let mut items = Vec::new(alloc);
+    items.push(Node::null())?;
+    items.push(Node::bytes(Vec::from_slice(alloc, &[1])?))?;
+    Ok(items)
+}
+
+/// The map of null by that key, or null where it is too deep.
+fn keyed_by(alloc: Global, key: Node) -> Result<Node, AllocError> {
+    let mut pairs = Vec::new(alloc);
+    pairs.push((key, Node::null()))?;
+    Ok(Node::map(pairs).unwrap_or(Node::null()))
+}
+
+#[test]
+fn byte_strings_and_keys_that_are_no_texts_are_foreign(rt: HostRuntime) -> Result<(), AllocError> {
+    let alloc = rt.alloc();
+    let listed = Node::list(null_and_bytes(alloc)?).unwrap_or(Node::null());
+    let by_text = keyed_by(alloc, Node::text(String::from_str(alloc, "k")?))?;
+    let by_number = keyed_by(alloc, Node::int(Whole::from_i64(5)))?;
+    let bytes = Refusal {
+        error: DeError::InvalidType(Kind::Bytes),
+        place: 2,
+    };
+    let number = Refusal {
+        error: DeError::InvalidType(Kind::Int),
+        place: 1,
+    };
+    for (node, wanted) in [
+        (&listed, Some(bytes)),
+        (&by_text, None),
+        (&by_number, Some(number)),
+    ] {
+        let doc = Doc::from_node(alloc, node)?;
+        assert!(rt; foreign_in(doc.view()) == wanted);
+        assert!(rt; node.is_plain() == wanted.is_none());
+        assert!(rt; doc.view().to_node(alloc)?.is_plain() == wanted.is_none());
+    }
+    Ok(())
+}
+
+#[test]
+fn numbers_of_64_bits_are_numbers(rt: HostRuntime) -> Result<(), AllocError> {
+    for value in [0, 7, i64::MIN, i64::MAX] {
+        let mut builder = DocBuilder::new(rt.alloc(), b"".as_slice());
+        builder.small(value)?;
+        assert!(rt; builder.finish().view().as_int() == Some(Whole::from_i64(value)));
+        assert!(rt; Whole::from_i64(value).to_i64() == Some(value));
+    }
+    Ok(())
 }
 
 fn is_small_map(view: View<'_>) -> bool {

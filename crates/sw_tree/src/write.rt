@@ -10,9 +10,9 @@ ghost use Rattle.sw_tree.specs.Building.{IsPut};
 use crate::builds::Builds;
 use crate::content::Content;
 use crate::fail::SerFail;
+use crate::known::{shown_bool, shown_bytes, shown_entries, shown_int, shown_items, shown_text};
 use crate::mode::Kind;
 use crate::node::Node;
-use crate::known::{shown_bool, shown_bytes, shown_entries, shown_int, shown_items, shown_text};
 use crate::view::{Entries, Items, View};
 
 /// Puts the view's tree in, node by node.
@@ -97,11 +97,7 @@ fn write_nodes<B: Builds>(out: &mut B, node: &Node, items: &[Node]) -> Result<()
 }
 
 #[cycle(write_parts)]
-fn write_pairs<B: Builds>(
-    out: &mut B,
-    node: &Node,
-    pairs: &[(Node, Node)],
-) -> Result<(), SerFail>
+fn write_pairs<B: Builds>(out: &mut B, node: &Node, pairs: &[(Node, Node)]) -> Result<(), SerFail>
     requires { node.now ≡ map (entries pairs.now) }
     ensures { IsPut B.put result (Ok (map (entries pairs.now))) out.old out.new }
 {
