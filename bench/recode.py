@@ -5,7 +5,7 @@ their headers are there (Debian's rapidjson-dev, libsimdjson-dev).
 Usage: bench/recode.py [ROUNDS]
 
 For each profile it recodes a text of up to 1, 2 and 4 MB and prints the best time, the peak memory and ratios. The
-program is the one that `./sw` builds.
+program is the one that `./sw --prove` builds.
 """
 
 import json
@@ -175,7 +175,7 @@ def measure(profile, make_text, written, rounds, peers, folder):
 def main():
     rounds = int(sys.argv[1]) if len(sys.argv) > 1 else 5
     if not os.path.exists(PROGRAM):
-        sys.exit("build the program first: printf '[]' | ./sw recode ids")
+        sys.exit("build the program first: ./sw --prove")
     print("revision: %s; machine: %s, %d processors" % (revision(), platform.machine(), os.cpu_count()))
     with tempfile.TemporaryDirectory() as folder:
         peers = yardsticks(folder)
