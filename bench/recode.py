@@ -111,15 +111,19 @@ def run_once(command, source, target):
     return float(took), int(peak) * KIB
 
 
-def best(command, text, rounds, folder):
-    """The best time, the peak memory and the output of some runs."""
+def best(commands, text, rounds, folder):
+    """The best time, the peak memory and the output of each command. They run in turn, so that all meet the same machine."""
     source, target = os.path.join(folder, "input"), os.path.join(folder, "output")
     with open(source, "wb") as file:
         file.write(text)
-    runs = [run_once(command, source, target) for _ in range(rounds)]
-    with open(target, "rb") as file:
-        output = file.read()
-    return min(run[0] for run in runs), max(run[1] for run in runs), output
+    runs, outputs = [[] for _ in commands], []
+    for _ in range(rounds):
+        for command, done in zip(commands, runs):
+            done.append(run_once(command, source, target))
+            if len(outputs) < len(commands):
+                with open(target, "rb") as file:
+                    outputs.append(file.read())
+    return [(min(run[0] for run in done), max(run[1] for run in done), output) for done, output in zip(runs, outputs)]
 
 
 # Name, source, a header that has to be there, and what it is linked with.
@@ -151,25 +155,26 @@ def revision():
 
 
 def measure(profile, make_text, written, rounds, peers, folder):
-    """Times one profile; `written` gives what is written of a text."""
+    """Times one profile, and its peers on the largest text; `written` gives what is written of a text."""
     times = {}
     for size in (LIMIT // 4, LIMIT // 2, LIMIT):
         text = make_text(size)
-        took, peak, output = best([PROGRAM, "recode", profile], text, rounds, folder)
+        beside = peers if size == LIMIT else []
+        commands = [[PROGRAM, "recode", profile]] + [command for _, command in beside]
+        (took, peak, output), *others = best(commands, text, rounds, folder)
         assert output == written(text) + b"\n", "the output isn't what is to be written"
         times[size] = took
         print(
             "recode %-5s %7d bytes: %.4f s, %6.1f MB/s, peak %5.1f MB = %4.1f times the input"
             % (profile, len(text), took, len(text) / took / 1e6, peak / 1e6, peak / len(text))
         )
+        for (name, _), (other, other_peak, output) in zip(beside, others):
+            assert output.rstrip(b"\n") == text, name
+            print(
+                "  %-10s %.4f s, peak %.1f MB; it takes %.2f times as long as recode, recode %.2f times as long as it"
+                % (name, other, other_peak / 1e6, other / took, took / other)
+            )
     print("  time of 4 MB over time of 1 MB: %.2f" % (times[LIMIT] / times[LIMIT // 4]))
-    for name, command in peers:
-        took, peak, output = best(command, text, rounds, folder)
-        assert output.rstrip(b"\n") == text, name
-        print(
-            "  %-10s %.4f s, peak %.1f MB; it takes %.2f times as long as recode, recode %.3f times as long as it"
-            % (name, took, peak / 1e6, took / times[LIMIT], times[LIMIT] / took)
-        )
 
 
 def main():
