@@ -14,7 +14,7 @@ use Rattle.sw_tree.specs.Steps.{Each}
 use Rattle.sw_tree.specs.Proper.{IsProper, AreProper}
 use Rattle.sw_tree.specs.ProperLaws.{proper-turns}
 use Rattle.sw_tree.specs.declared.cell.Cell.{Cell}
-use Rattle.sw_tree.specs.declared.cell.Cell.TheVariants.{Null, Bool as Truth, Small, Wide, Text, Copied, Bytes, CopiedBytes, List as Items, Map}
+use Rattle.sw_tree.specs.declared.cell.Cell.TheVariants.{Null, Bool as Truth, Natural, Negative, Wide, Text, Copied, Bytes, CopiedBytes, List as Items, Map}
 use Rattle.sw_tree.specs.declared.builder.Open.{Open}
 use Rattle.sw_tree.specs.Cells.{Store, forest, arity, below, tree_at, Formed, IsFine, IsPart, first}
 use Rattle.sw_tree.specs.Builder.{Built, added, longer, opened, closed, built_tree, finished, IsComplete, meant, Segment, Stacked, Standing, open_of, done_of, root_of, IsFirst}
@@ -23,7 +23,8 @@ use Rattle.sw_tree.proofs.CellLemmas.{Formed-drop, forest_proper}
 tree_at-append : (s : Store) (c : Cell) (f g : List Tree) → arity c ≤ length f → tree_at s c (f ++ g) ≡ tree_at s c f
 tree_at-append s Null f g h = refl
 tree_at-append s (Truth b) f g h = refl
-tree_at-append s (Small z) f g h = refl
+tree_at-append s (Natural z) f g h = refl
+tree_at-append s (Negative z) f g h = refl
 tree_at-append s (Wide k) f g h = refl
 tree_at-append s (Text p) f g h = refl
 tree_at-append s (Copied p) f g h = refl

@@ -8,7 +8,7 @@ use Rattle.sw_tree.specs.Tree.{Tree, depth, trees, trees_depth}
 use Rattle.sw_tree.specs.Proper.{IsProper}
 use Rattle.sw_tree.specs.declared.cell.Cell.{Cell}
 use Rattle.sw_tree.specs.declared.cell.Span.{Span}
-use Rattle.sw_tree.specs.declared.cell.Cell.TheVariants.{Null, Bool, Small, Wide, Text, Copied, Bytes, CopiedBytes, List as Items, Map}
+use Rattle.sw_tree.specs.declared.cell.Cell.TheVariants.{Null, Bool, Natural, Negative, Wide, Text, Copied, Bytes, CopiedBytes, List as Items, Map}
 use Rattle.sw_tree.specs.declared.builder.Open.{Open}
 use Rattle.sw_tree.specs.Cells.{Store, forest, arity, below, tree_at, part, Formed, IsFine, IsText, IsPart}
 use Rattle.sw_tree.specs.Builder.{Segment, Stacked, open_of, done_of}
@@ -46,7 +46,8 @@ fine-more s m w (Text p) h = h
 fine-more s m w (Bytes p) h = h
 fine-more s m w Null h = tt
 fine-more s m w (Bool b) h = tt
-fine-more s m w (Small z) h = tt
+fine-more s m w (Natural z) h = tt
+fine-more s m w (Negative z) h = tt
 fine-more s m w (Items r) h = tt
 fine-more s m w (Map r) h = tt
 
@@ -58,7 +59,8 @@ tree_at-more s m w (Text p) ts h = refl
 tree_at-more s m w (Bytes p) ts h = refl
 tree_at-more s m w Null ts h = refl
 tree_at-more s m w (Bool b) ts h = refl
-tree_at-more s m w (Small z) ts h = refl
+tree_at-more s m w (Natural z) ts h = refl
+tree_at-more s m w (Negative z) ts h = refl
 tree_at-more s m w (Items r) ts h = refl
 tree_at-more s m w (Map r) ts h = refl
 

@@ -7,7 +7,7 @@ use Rattle.std.specs.Prelude.{slice_range}
 use Rattle.std.specs.Str.{IsUtf8}
 use Rattle.sw_tree.specs.declared.cell.Cell.{Cell}
 use Rattle.sw_tree.specs.declared.cell.Span.{Span}
-use Rattle.sw_tree.specs.declared.cell.Cell.TheVariants.{Null, Bool, Small, Wide, Text, Copied, Bytes, CopiedBytes, List as Items, Map}
+use Rattle.sw_tree.specs.declared.cell.Cell.TheVariants.{Null, Bool, Natural, Negative, Wide, Text, Copied, Bytes, CopiedBytes, List as Items, Map}
 use Rattle.sw_tree.specs.declared.part.Stretch.{Stretch}
 use Rattle.sw_tree.specs.declared.part.Reach.{Reach}
 use Rattle.sw_tree.specs.Steps.{Each}
@@ -31,7 +31,8 @@ Within g (Copied p) = Lies g.side p.start p.end
 Within g (CopiedBytes p) = Lies g.side p.start p.end
 Within g Null = Unit {0}
 Within g (Bool b) = Unit {0}
-Within g (Small z) = Unit {0}
+Within g (Natural z) = Unit {0}
+Within g (Negative z) = Unit {0}
 Within g (Items r) = Unit {0}
 Within g (Map r) = Unit {0}
 
@@ -65,7 +66,8 @@ within_over h g (Copied q) p w = lies_over h.side g.side q.start q.end p.side w
 within_over h g (CopiedBytes q) p w = lies_over h.side g.side q.start q.end p.side w
 within_over h g Null p w = tt
 within_over h g (Bool b) p w = tt
-within_over h g (Small z) p w = tt
+within_over h g (Natural z) p w = tt
+within_over h g (Negative z) p w = tt
 within_over h g (Items r) p w = tt
 within_over h g (Map r) p w = tt
 
@@ -83,7 +85,8 @@ widened_covers g (Copied q) = record { input = lies_same g.input; side = joined_
 widened_covers g (CopiedBytes q) = record { input = lies_same g.input; side = joined_first g.side q.start q.end; wides = lies_same g.wides }
 widened_covers g Null = covers_same g
 widened_covers g (Bool b) = covers_same g
-widened_covers g (Small z) = covers_same g
+widened_covers g (Natural z) = covers_same g
+widened_covers g (Negative z) = covers_same g
 widened_covers g (Items r) = covers_same g
 widened_covers g (Map r) = covers_same g
 
@@ -95,7 +98,8 @@ widened_within g (Copied q) = joined_second g.side q.start q.end
 widened_within g (CopiedBytes q) = joined_second g.side q.start q.end
 widened_within g Null = tt
 widened_within g (Bool b) = tt
-widened_within g (Small z) = tt
+widened_within g (Natural z) = tt
+widened_within g (Negative z) = tt
 widened_within g (Items r) = tt
 widened_within g (Map r) = tt
 
@@ -129,7 +133,8 @@ widened_inside s g (Copied q) f h = record { input = h.input; side = joined_insi
 widened_inside s g (CopiedBytes q) f h = record { input = h.input; side = joined_inside s.side g.side q.start q.end h.side f.inside; wides = h.wides }
 widened_inside s g Null f h = h
 widened_inside s g (Bool b) f h = h
-widened_inside s g (Small z) f h = h
+widened_inside s g (Natural z) f h = h
+widened_inside s g (Negative z) f h = h
 widened_inside s g (Items r) f h = h
 widened_inside s g (Map r) f h = h
 
@@ -171,7 +176,8 @@ fine_moved s g (Copied p) i f w = moved_text s.side g.side p i.side f w
 fine_moved s g (CopiedBytes p) i f w = moved_lies s.side g.side p i.side f w
 fine_moved s g Null i f w = tt
 fine_moved s g (Bool b) i f w = tt
-fine_moved s g (Small z) i f w = tt
+fine_moved s g (Natural z) i f w = tt
+fine_moved s g (Negative z) i f w = tt
 fine_moved s g (Items r) i f w = tt
 fine_moved s g (Map r) i f w = tt
 
@@ -183,7 +189,8 @@ tree_moved s g (Copied p) ts f w = ap tree.text (moved_part s.side g.side p f.li
 tree_moved s g (CopiedBytes p) ts f w = ap tree.bytes (moved_part s.side g.side p f w)
 tree_moved s g Null ts f w = refl
 tree_moved s g (Bool b) ts f w = refl
-tree_moved s g (Small z) ts f w = refl
+tree_moved s g (Natural z) ts f w = refl
+tree_moved s g (Negative z) ts f w = refl
 tree_moved s g (Items r) ts f w = refl
 tree_moved s g (Map r) ts f w = refl
 
@@ -195,7 +202,8 @@ arity_moved g (Copied p) = refl
 arity_moved g (CopiedBytes p) = refl
 arity_moved g Null = refl
 arity_moved g (Bool b) = refl
-arity_moved g (Small z) = refl
+arity_moved g (Natural z) = refl
+arity_moved g (Negative z) = refl
 arity_moved g (Items r) = refl
 arity_moved g (Map r) = refl
 
@@ -207,7 +215,8 @@ below_moved g (Copied p) = refl
 below_moved g (CopiedBytes p) = refl
 below_moved g Null = refl
 below_moved g (Bool b) = refl
-below_moved g (Small z) = refl
+below_moved g (Natural z) = refl
+below_moved g (Negative z) = refl
 below_moved g (Items r) = refl
 below_moved g (Map r) = refl
 

@@ -3,7 +3,7 @@ use Rattle.std.proofs.Common.{ℕ, zero, suc, ◌+◌, ◌≤◌, ◌≡◌, Lis
 use Rattle.std.proofs.lemmas.List.{take-take, length-take-le}
 use Rattle.std.proofs.Math.ListN.{drop_of_length-le}
 use Rattle.sw_tree.specs.declared.cell.Cell.{Cell}
-use Rattle.sw_tree.specs.declared.cell.Cell.TheVariants.{Null, Bool, Small, Wide, Text, Copied, Bytes, CopiedBytes, List as Items, Map}
+use Rattle.sw_tree.specs.declared.cell.Cell.TheVariants.{Null, Bool, Natural, Negative, Wide, Text, Copied, Bytes, CopiedBytes, List as Items, Map}
 use Rattle.sw_tree.specs.Tree as tree
 use Rattle.sw_tree.specs.Tree.{Tree, depth, trees, entries, turns, size, trees_size}
 use Rattle.sw_tree.specs.Proper.{IsProper}
@@ -26,7 +26,8 @@ take-add (suc n) m (x ∷ xs) = let e : suc n + m ≡ suc (n + m) = omega arith 
 tree_at-take : (s : Store) (c : Cell) (ts : List Tree) → tree_at s c (take (arity c) ts) ≡ tree_at s c ts
 tree_at-take s Null ts = refl
 tree_at-take s (Bool b) ts = refl
-tree_at-take s (Small z) ts = refl
+tree_at-take s (Natural z) ts = refl
+tree_at-take s (Negative z) ts = refl
 tree_at-take s (Wide k) ts = refl
 tree_at-take s (Text p) ts = refl
 tree_at-take s (Copied p) ts = refl

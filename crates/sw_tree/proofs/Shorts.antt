@@ -2,7 +2,7 @@
 use Rattle.std.proofs.Common.{ℕ, zero, suc, ◌+◌, ◌-◌, ◌≤◌, List, [], ◌∷◌, ◌++◌, length, take, drop, arith, length-drop}
 use Rattle.sw_tree.specs.declared.cell.Cell.{Cell}
 use Rattle.sw_tree.specs.declared.cell.Span.{Span}
-use Rattle.sw_tree.specs.declared.cell.Cell.TheVariants.{Null, Bool, Small, Wide, Text, Copied, Bytes, CopiedBytes, List as Items, Map}
+use Rattle.sw_tree.specs.declared.cell.Cell.TheVariants.{Null, Bool, Natural, Negative, Wide, Text, Copied, Bytes, CopiedBytes, List as Items, Map}
 use Rattle.sw_tree.specs.Tree.{Tree, trees, entries, turns, items-trees, pairs-entries}
 use Rattle.sw_tree.specs.Short.{IsLength, IsShort, AreShort, AreShortEntries}
 use Rattle.sw_tree.specs.Cells.{Store, part, arity, tree_at, forest, first}
@@ -53,7 +53,8 @@ module _ (s : Store) (input : IsLength (length s.input)) (side : IsLength (lengt
   cell_short : (c : Cell) (ts : List Tree) → IsLength (length ts) → AreShort (trees ts) → IsShort (tree_at s c ts)
   cell_short Null ts n h = tt
   cell_short (Bool b) ts n h = tt
-  cell_short (Small z) ts n h = tt
+  cell_short (Natural z) ts n h = tt
+  cell_short (Negative z) ts n h = tt
   cell_short (Wide k) ts n h = tt
   cell_short (Text p) ts n h = part_length s.input p input
   cell_short (Copied p) ts n h = part_length s.side p side

@@ -1,12 +1,13 @@
 -- What a list of cells means.
-use Rattle.std.specs.Prelude.{ℕ, ℤ, pos, ◌+◌, ◌≤◌, ◌<◌, ◌≡◌, List, [], ◌∷◌, length, take, drop, slice_range, get_or}
+use Rattle.std.specs.Prelude.{ℕ, ℤ, pos, negsuc, ◌+◌, ◌*◌, ◌^◌, ◌≤◌, ◌<◌, ◌≡◌, List, [], ◌∷◌, length, take, drop, slice_range, get_or}
 use Rattle.std.specs.Str.{IsUtf8}
 use Rattle.sw_tree.specs.Tree as tree
 use Rattle.sw_tree.specs.Tree.{Tree, depth, trees, entries, turns}
 use Rattle.sw_tree.specs.Proper.{IsProper}
 use Rattle.sw_tree.specs.declared.cell.Cell.{Cell}
 use Rattle.sw_tree.specs.declared.cell.Span.{Span}
-use Rattle.sw_tree.specs.declared.cell.Cell.TheVariants.{Null, Bool, Small, Wide, Text, Copied, Bytes, CopiedBytes, List as Items, Map}
+use Rattle.sw_tree.specs.declared.cell.Halves.{Halves}
+use Rattle.sw_tree.specs.declared.cell.Cell.TheVariants.{Null, Bool, Natural, Negative, Wide, Text, Copied, Bytes, CopiedBytes, List as Items, Map}
 
 -- what cells point into
 pub record Store : Type 0 where
@@ -16,6 +17,10 @@ pub record Store : Type 0 where
 
 abbrev pub part : List ℕ → Span → List ℕ
 part source s = slice_range source s.start s.end
+
+-- the number that two halves make
+abbrev pub halves_number : Halves → ℕ
+halves_number h = h.high * 2 ^ 32 + h.low
 
 -- how many of the trees behind a cell are its children
 abbrev pub arity : Cell → ℕ
@@ -33,7 +38,8 @@ below _ = 0
 abbrev pub tree_at : Store → Cell → List Tree → Tree
 tree_at s Null ts = tree.null
 tree_at s (Bool b) ts = tree.truth b
-tree_at s (Small z) ts = tree.int z
+tree_at s (Natural h) ts = tree.int (pos (halves_number h))
+tree_at s (Negative h) ts = tree.int (negsuc (halves_number h))
 tree_at s (Wide k) ts = tree.int (get_or s.wides k (pos 0))
 tree_at s (Text p) ts = tree.text (part s.input p)
 tree_at s (Copied p) ts = tree.text (part s.side p)

@@ -2,7 +2,7 @@
 use Rattle.std.specs.Prelude.{ℕ, ◌-◌, ◌+◌, List, [], ◌∷◌, slice_range, min, max}
 use Rattle.sw_tree.specs.declared.cell.Cell.{Cell}
 use Rattle.sw_tree.specs.declared.cell.Span.{Span}
-use Rattle.sw_tree.specs.declared.cell.Cell.TheVariants.{Null, Bool, Small, Wide, Text, Copied, Bytes, CopiedBytes, List as Items, Map}
+use Rattle.sw_tree.specs.declared.cell.Cell.TheVariants.{Null, Bool, Natural, Negative, Wide, Text, Copied, Bytes, CopiedBytes, List as Items, Map}
 use Rattle.sw_tree.specs.declared.part.Stretch.{Stretch}
 use Rattle.sw_tree.specs.declared.part.Reach.{Reach}
 use Rattle.sw_tree.specs.Cells.{Store}
@@ -20,7 +20,8 @@ widened g (Copied p) = record { input = g.input; side = joined g.side p.start p.
 widened g (CopiedBytes p) = record { input = g.input; side = joined g.side p.start p.end; wides = g.wides }
 widened g Null = g
 widened g (Bool b) = g
-widened g (Small z) = g
+widened g (Natural z) = g
+widened g (Negative z) = g
 widened g (Items r) = g
 widened g (Map r) = g
 
@@ -53,7 +54,8 @@ moved g (Copied p) = Copied (moved_span g.side.start p)
 moved g (CopiedBytes p) = CopiedBytes (moved_span g.side.start p)
 moved g Null = Null
 moved g (Bool b) = Bool b
-moved g (Small z) = Small z
+moved g (Natural z) = Natural z
+moved g (Negative z) = Negative z
 moved g (Items r) = Items r
 moved g (Map r) = Map r
 

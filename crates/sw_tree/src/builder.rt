@@ -117,7 +117,7 @@ impl<'de> DocBuilder<'de> {
         ensures ok { OnOk result (self.new ≡ added self.old (tree.int value)) }
         ensures err { OnErr result (self.new ≡ self.old) }
     {
-        self.leaf(Cell::Small(value))
+        self.leaf(Cell::of_number(value))
     }
 
     /// Adds a number, in the list beside the cells.

@@ -391,6 +391,35 @@ fn numbers_of_64_bits_are_numbers(rt: HostRuntime) -> Result<(), AllocError> {
     Ok(())
 }
 
+#[test]
+fn numbers_at_the_edges_come_back(rt: HostRuntime) -> Result<(), AllocError> {
+    for value in [
+        Whole::from_i128(0),
+        Whole::from_i128(1 << 31),
+        Whole::from_i128((1 << 32) - 1),
+        Whole::from_i128(1 << 32),
+        Whole::from_i128((1 << 63) - 1),
+        Whole::from_i128(1 << 63),
+        Whole::from_i128((1 << 64) - 1),
+        Whole::from_i128(1 << 64),
+        Whole::from_u128(u128::MAX),
+        Whole::from_i128(-1),
+        Whole::from_i128(-(1 << 31)),
+        Whole::from_i128(-(1 << 32)),
+        Whole::from_i128(-(1 << 32) - 1),
+        Whole::from_i128(-(1 << 63)),
+        Whole::from_i128(-(1 << 63) - 1),
+        Whole::from_i128(i128::MIN),
+    ] {
+        let mut builder = DocBuilder::new(rt.alloc(), b"".as_slice());
+        builder.int(value)?;
+        let doc = builder.finish();
+        assert!(rt; matches!(doc.view().kind(), Kind::Int));
+        assert!(rt; doc.view().as_int() == Some(value));
+    }
+    Ok(())
+}
+
 fn is_small_map(view: View<'_>) -> bool {
     let Some(mut entries) = view.entries() else {
         return false;

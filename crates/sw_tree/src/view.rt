@@ -160,7 +160,8 @@ impl<'a> View<'a> {
         match self.cell() {
             Cell::Null => Kind::Null,
             Cell::Bool(_) => Kind::Bool,
-            Cell::Small(_) => Kind::Int,
+            Cell::Natural(_) => Kind::Int,
+            Cell::Negative(_) => Kind::Int,
             Cell::Wide(_) => Kind::Int,
             Cell::Text(_) => Kind::Text,
             Cell::Copied(_) => Kind::Text,
@@ -186,7 +187,8 @@ impl<'a> View<'a> {
         ensures { result ≡ int_at (tree_of self.entry) }
     {
         match self.cell() {
-            Cell::Small(value) => Some(Whole::from_i64(value)),
+            Cell::Natural(halves) => Some(Whole::from_u128(u128::from(halves.number()))),
+            Cell::Negative(halves) => Some(Whole::from_i128(-1 - i128::from(halves.number()))),
             Cell::Wide(index) => Some(self.sheet.wides[index as usize]),
             _ => None,
         }
