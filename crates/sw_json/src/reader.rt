@@ -77,7 +77,10 @@ pub fn read_tree<'de>(alloc: Global, bytes: &'de [u8]) -> Result<Doc<'de>, WireE
     if let Some(fault) = fault {
         return Err(fault);
     }
-    Ok(builder.finish())
+    let Ok(document) = builder.finish().shared(alloc) else {
+        return Err(WireError::Memory);
+    };
+    Ok(document)
 }
 
 #[cfg(test)]

@@ -8,6 +8,7 @@ pub mod Tree
 pub mod Proper
 pub mod ProperLaws
 pub mod Sheet
+pub mod Held
 pub mod Short
 pub mod NodeTrees
 pub mod TreeCode

@@ -1,5 +1,6 @@
 use crate::cell::Cell;
 use crate::from_node::document_of;
+use crate::held::Held;
 use crate::node::Node;
 use crate::sheet::Sheet;
 use crate::view::View;
@@ -11,7 +12,7 @@ use std::marker::Model;
 #[derive(Drop)]
 pub struct Doc<'de> {
     input: &'de [u8],
-    sheet: Sheet,
+    held: Held,
 }
 
 impl<'de> Model for Doc<'de> {
@@ -19,17 +20,18 @@ impl<'de> Model for Doc<'de> {
     ghost use Rattle.sw_tree.specs.Doc.{Document, coded_document};
     ghost use Rattle.sw_tree.specs.Cells.{Formed};
     ghost use Rattle.sw_tree.specs.Sheet.{sheet_store, sheet_tree};
+    ghost use Rattle.sw_tree.specs.Held.{held_sheet};
 
     ghost Value = { Document };
 
     ghost coded = { coded_document };
 
     ghost view = { λ d. record {
-      tree = sheet_tree d.input.now d.sheet;
-      side_len = length d.sheet.side.items;
+      tree = sheet_tree d.input.now (held_sheet d.held);
+      side_len = length (held_sheet d.held).side.items;
     } };
 
-    ghost invariant = { λ d. Formed (sheet_store d.input.now d.sheet) d.sheet.cells.items };
+    ghost invariant = { λ d. Formed (sheet_store d.input.now (held_sheet d.held)) (held_sheet d.held).cells.items };
 }
 
 impl<'de> Doc<'de> {
@@ -55,7 +57,7 @@ impl<'de> Doc<'de> {
     {
         Doc {
             input,
-            sheet: Sheet { side, wides, cells },
+            held: Held::Own(Sheet { side, wides, cells }),
         }
     }
 
@@ -67,11 +69,21 @@ impl<'de> Doc<'de> {
         document_of(alloc, node)
     }
 
+    /// The same document, whose cells are shared by each node that is copied from its root.
+    /// The one error is want of memory; the document is then given up.
+    pub fn shared(self, alloc: Global) -> Result<Doc<'de>, AllocError>
+        ensures { IfOk result (λ d. d ≡ self.entry) }
+    {
+        let Doc { input, held } = self;
+        let held = held.shared(alloc)?;
+        Ok(Doc { input, held })
+    }
+
     /// The root, whose place is 0, and whose nodes below count on from there.
     pub fn view(&self) -> View<'_>
         ensures { seen result ≡ record { tree = self.now.tree; place = 0; counts = true } }
     {
-        View::root(self.input, &self.sheet, true, 0)
+        View::root(self.input, &self.held, true, 0)
     }
 
     /// The root of a document that stands inside a node of another: it and all nodes below
@@ -79,13 +91,13 @@ impl<'de> Doc<'de> {
     pub fn view_inside(&self, place: usize) -> View<'_>
         ensures { seen result ≡ record { tree = self.now.tree; place = place; counts = false } }
     {
-        View::root(self.input, &self.sheet, false, place)
+        View::root(self.input, &self.held, false, place)
     }
 
     /// How many bytes stand in the text beside the input.
     pub fn side_len(&self) -> usize
         ensures { result ≡ self.now.side_len }
     {
-        self.sheet.side.len()
+        self.held.sheet().side.len()
     }
 }

@@ -1,3 +1,4 @@
+use crate::held::Held;
 use crate::part::{copied_bytes, copied_wides, moved_cells, reach_of, run_at};
 use crate::sheet::Sheet;
 use crate::view::View;
@@ -8,7 +9,7 @@ use std::marker::Model;
 #[derive(Drop)]
 pub(crate) struct Kept {
     input: Vec<u8>,
-    sheet: Sheet,
+    held: Held,
 }
 
 impl Model for Kept {
@@ -16,14 +17,15 @@ impl Model for Kept {
     ghost use Rattle.sw_tree.specs.TreeCode.{coded_tree};
     ghost use Rattle.sw_tree.specs.Cells.{Formed};
     ghost use Rattle.sw_tree.specs.Sheet.{sheet_store, sheet_tree};
+    ghost use Rattle.sw_tree.specs.Held.{held_sheet};
 
     ghost Value = { Tree };
 
     ghost coded = { coded_tree };
 
-    ghost view = { λ k. sheet_tree k.input.items k.sheet };
+    ghost view = { λ k. sheet_tree k.input.items (held_sheet k.held) };
 
-    ghost invariant = { λ k. Formed (sheet_store k.input.items k.sheet) k.sheet.cells.items };
+    ghost invariant = { λ k. Formed (sheet_store k.input.items (held_sheet k.held)) (held_sheet k.held).cells.items };
 }
 
 impl Kept {
@@ -32,15 +34,16 @@ impl Kept {
     ghost use Rattle.sw_tree.specs.Cells.{Formed, forest, first, below};
     ghost use Rattle.sw_tree.specs.declared.cell.Cell.TheVariants.{Null};
     ghost use Rattle.sw_tree.specs.Sheet.{sheet_store, sheet_tree};
+    ghost use Rattle.sw_tree.specs.Held.{held_sheet};
 
-    /// The document of that input and sheet, copied.
-    pub(crate) fn root(alloc: Global, input: &[u8], sheet: &Sheet) -> Result<Kept, AllocError>
-        requires { Formed (sheet_store input.now sheet.now) sheet.now.cells.items }
-        ensures { IfOk result (λ k. k ≡ sheet_tree input.now sheet.now) }
+    /// The document of that input, copied, and of that sheet, copied where it isn't shared.
+    pub(crate) fn root(alloc: Global, input: &[u8], held: &Held) -> Result<Kept, AllocError>
+        requires { Formed (sheet_store input.now (held_sheet held.now)) (held_sheet held.now).cells.items }
+        ensures { IfOk result (λ k. k ≡ sheet_tree input.now (held_sheet held.now)) }
     {
         Ok(Kept {
             input: Vec::from_slice(alloc, input)?,
-            sheet: sheet.copy(alloc)?,
+            held: held.copy(alloc)?,
         })
     }
 
@@ -68,11 +71,11 @@ impl Kept {
         let own_cells = moved_cells(alloc, reach, run)?;
         Ok(Kept {
             input: own_input,
-            sheet: Sheet {
+            held: Held::Own(Sheet {
                 side: own_side,
                 wides: own_wides,
                 cells: own_cells,
-            },
+            }),
         })
     }
 
@@ -80,6 +83,6 @@ impl Kept {
     pub(crate) fn view(&self) -> View<'_>
         ensures { seen result ≡ record { tree = self.now; place = 0; counts = true } }
     {
-        View::root(self.input.as_slice(), &self.sheet, true, 0)
+        View::root(self.input.as_slice(), &self.held, true, 0)
     }
 }

@@ -13,6 +13,7 @@ pub mod fail;
 pub mod foreign;
 mod from_node;
 mod hashed;
+mod held;
 pub mod images;
 mod kept;
 pub mod kinds;

@@ -68,7 +68,8 @@ fn shown(alloc: Global, view: View<'_>) -> Result<String, AllocError> {
     Ok(text)
 }
 
-fn shows(alloc: Global, doc: &Doc<'_>) -> Result<bool, AllocError> {
+/// Whether the view shows the list of `document`.
+fn shows(alloc: Global, list: View<'_>) -> Result<bool, AllocError> {
     let wanted = [
         "null",
         "bool true",
@@ -77,20 +78,22 @@ fn shows(alloc: Global, doc: &Doc<'_>) -> Result<bool, AllocError> {
         "text A",
         "map",
     ];
-    let mut right = doc.view().kind() == Kind::List && doc.view().len() == 7;
-    let Some(items) = doc.view().items() else {
+    let mut right = list.kind() == Kind::List && list.len() == 7;
+    let Some(items) = list.items() else {
         return Ok(false);
     };
     for (item, wanted) in items.zip(wanted) {
         right = right && shown(alloc, item)?.as_str() == wanted;
     }
-    Ok(right && doc.side_len() == 2)
+    Ok(right)
 }
 
 #[test]
 fn a_document_shows_what_was_built(rt: HostRuntime) {
     let doc = document(rt.alloc());
-    assert!(rt; matches!(&doc, Ok(doc) if matches!(shows(rt.alloc(), doc), Ok(true))));
+    assert!(rt;
+        matches!(&doc, Ok(doc) if matches!(shows(rt.alloc(), doc.view()), Ok(true)) && doc.side_len() == 2)
+    );
 }
 
 /// The printed path to the node that has the place, and the place of the node it leads to.
@@ -448,6 +451,38 @@ fn part_stays(alloc: Global) -> Result<bool, AllocError> {
 #[test]
 fn copied_part_is_a_document(rt: HostRuntime) {
     assert!(rt; matches!(part_stays(rt.alloc()), Ok(true)));
+}
+
+/// The list in a document whose cells are shared, and the map in it, copied; the document is let go.
+fn shared_nodes(alloc: Global) -> Result<Option<(Node, Node)>, AllocError> {
+    let doc = document(alloc)?.shared(alloc)?.shared(alloc)?;
+    let Some(items) = doc.view().items() else {
+        return Ok(None);
+    };
+    for item in items {
+        if item.kind() == Kind::Map {
+            return Ok(Some((doc.view().to_node(alloc)?, item.to_node(alloc)?)));
+        }
+    }
+    Ok(None)
+}
+
+/// Whether both are read as what they were copied from, and so is a copy of the first.
+fn shared_nodes_stay(alloc: Global) -> Result<bool, AllocError> {
+    let Some((list, map)) = shared_nodes(alloc)? else {
+        return Ok(false);
+    };
+    let again = list.copy(alloc)?;
+    drop(list);
+    Ok(
+        matches!(again.content(), Content::Document(view) if shows(alloc, view)? && view.place() == 0)
+            && matches!(map.content(), Content::Document(view) if is_small_map(view) && view.place() == 0),
+    )
+}
+
+#[test]
+fn nodes_that_share_cells_outlive_their_document(rt: HostRuntime) {
+    assert!(rt; matches!(shared_nodes_stay(rt.alloc()), Ok(true)));
 }
 
 /// The key text of the image on JSON of a map with that one key.

@@ -1,12 +1,13 @@
 ghost use Rattle.std.specs.Prelude.{◌<◌, ◌≤◌, ◌≡◌, length, IfOk};
 ghost use Rattle.sw_tree.specs.Cells.{Formed, IsText, part};
 ghost use Rattle.sw_tree.specs.Formed.{Formed-prop};
+ghost use Rattle.sw_tree.specs.Held.{held_sheet};
 
 use crate::cell::{Cell, Span};
+use crate::held::Held;
 use crate::kept::Kept;
 use crate::mode::Kind;
 use crate::node::Node;
-use crate::sheet::Sheet;
 use crate::to_node::leaf_of;
 use crate::whole::Whole;
 use std::alloc::{AllocError, Global};
@@ -19,12 +20,12 @@ use std::marker::Model;
 #[derive(Clone, Copy)]
 pub struct View<'a> {
     input: &'a [u8],
-    sheet: &'a Sheet,
+    held: &'a Held,
     fixed: usize,
     at: u32,
     counts: bool,
-    ghost inside: { at < length sheet.now.cells.items },
-    ghost formed: { Formed (record { input = input.now; side = sheet.now.side.items; wides = sheet.now.wides.items }) sheet.now.cells.items } by { Formed-prop (record { input = input.now; side = sheet.now.side.items; wides = sheet.now.wides.items }) sheet.now.cells.items },
+    ghost inside: { at < length (held_sheet held.now).cells.items },
+    ghost formed: { Formed (record { input = input.now; side = (held_sheet held.now).side.items; wides = (held_sheet held.now).wides.items }) (held_sheet held.now).cells.items } by { Formed-prop (record { input = input.now; side = (held_sheet held.now).side.items; wides = (held_sheet held.now).wides.items }) (held_sheet held.now).cells.items },
 }
 
 const _: () = prove!(size_of::<View<'static>>() == 40);
@@ -42,18 +43,18 @@ impl<'a> View<'a> {
 
     /// The root, which stands at 0 where it counts, and is fixed at that place otherwise.
     #[tactic(auto, unfolding(crate::specs::View::seen))]
-    pub(crate) fn root(input: &'a [u8], sheet: &'a Sheet, counts: bool, fixed: usize) -> View<'a>
-        requires { Formed (sheet_store input.now sheet.now) sheet.now.cells.items }
+    pub(crate) fn root(input: &'a [u8], held: &'a Held, counts: bool, fixed: usize) -> View<'a>
+        requires { Formed (sheet_store input.now (held_sheet held.now)) (held_sheet held.now).cells.items }
         ensures { seen result
             ≡ record {
-              tree = sheet_tree input.entry.now sheet.entry.now;
+              tree = sheet_tree input.entry.now (held_sheet held.entry.now);
               place = place_in counts fixed 0;
               counts = counts;
             } }
     {
         View {
             input,
-            sheet,
+            held,
             fixed,
             at: 0,
             counts,
@@ -87,7 +88,7 @@ impl<'a> View<'a> {
         match self.cell() {
             Cell::List(extent) => Some(Items {
                 input: self.input,
-                sheet: self.sheet,
+                held: self.held,
                 fixed: self.fixed,
                 at: self.at + 1,
                 left: extent.count,
@@ -105,7 +106,7 @@ impl<'a> View<'a> {
         match self.cell() {
             Cell::Map(extent) => Some(Entries {
                 input: self.input,
-                sheet: self.sheet,
+                held: self.held,
                 fixed: self.fixed,
                 at: self.at + 1,
                 left: extent.count,
@@ -118,11 +119,11 @@ impl<'a> View<'a> {
     /// The number of the cell behind the node and all below it.
     #[inline]
     pub(crate) fn behind(self) -> u32
-        ensures next { forest (store_of self.entry) (drop self.entry.at self.entry.sheet.now.cells.items) ≡ tree_of self.entry ∷ forest (store_of self.entry) (drop result self.entry.sheet.now.cells.items) }
+        ensures next { forest (store_of self.entry) (drop self.entry.at (held_sheet self.entry.held.now).cells.items) ≡ tree_of self.entry ∷ forest (store_of self.entry) (drop result (held_sheet self.entry.held.now).cells.items) }
         ensures place { result ≡ self.entry.at + size (tree_of self.entry) }
-        ensures all { result ≡ self.entry.at + 1 + below (get_or self.entry.sheet.now.cells.items self.entry.at Cell.Null) }
+        ensures all { result ≡ self.entry.at + 1 + below (get_or (held_sheet self.entry.held.now).cells.items self.entry.at Cell.Null) }
     {
-        self.at + 1 + self.sheet.cell(self.at).below()
+        self.at + 1 + self.held.cell(self.at).below()
     }
 
     /// The place behind a counting node and all below it.
@@ -140,14 +141,14 @@ impl<'a> View<'a> {
         ensures shallow { depth (tree_of self.entry) ≤ 128 }
         ensures proper { IsProper (tree_of self.entry) }
         ensures short { IsShort (tree_of self.entry) }
-        ensures enough { arity result ≤ length (forest (store_of self.entry) (drop (self.entry.at + 1) self.entry.sheet.now.cells.items)) }
+        ensures enough { arity result ≤ length (forest (store_of self.entry) (drop (self.entry.at + 1) (held_sheet self.entry.held.now).cells.items)) }
         ensures fine { IsFine (store_of self.entry) result }
-        ensures tree { tree_of self.entry ≡ tree_at (store_of self.entry) result (forest (store_of self.entry) (drop (self.entry.at + 1) self.entry.sheet.now.cells.items)) }
+        ensures tree { tree_of self.entry ≡ tree_at (store_of self.entry) result (forest (store_of self.entry) (drop (self.entry.at + 1) (held_sheet self.entry.held.now).cells.items)) }
         ensures place { (seen self.entry).place ≡ place_in self.entry.counts self.entry.fixed self.entry.at }
         ensures counts { (seen self.entry).counts ≡ self.entry.counts }
     {
         let _input = self.input.len();
-        self.sheet.cell(self.at)
+        self.held.cell(self.at)
     }
 
     /// The node's kind.
@@ -189,7 +190,7 @@ impl<'a> View<'a> {
         match self.cell() {
             Cell::Natural(halves) => Some(Whole::from_u128(u128::from(halves.number()))),
             Cell::Negative(halves) => Some(Whole::from_i128(-1 - i128::from(halves.number()))),
-            Cell::Wide(index) => Some(self.sheet.wides[index as usize]),
+            Cell::Wide(index) => Some(self.held.sheet().wides[index as usize]),
             _ => None,
         }
     }
@@ -200,7 +201,7 @@ impl<'a> View<'a> {
     {
         match self.cell() {
             Cell::Text(span) => Some(text_in(self.input, span)),
-            Cell::Copied(span) => Some(text_in(self.sheet.side.as_slice(), span)),
+            Cell::Copied(span) => Some(text_in(self.held.sheet().side.as_slice(), span)),
             _ => None,
         }
     }
@@ -212,7 +213,7 @@ impl<'a> View<'a> {
         match self.cell() {
             Cell::Bytes(span) => Some(&self.input[span.start as usize..span.end as usize]),
             Cell::CopiedBytes(span) => Some(
-                &self.sheet.side.as_slice()[span.start as usize..span.end as usize],
+                &self.held.sheet().side.as_slice()[span.start as usize..span.end as usize],
             ),
             _ => None,
         }
@@ -259,9 +260,9 @@ impl<'a> View<'a> {
         ensures { IfOk result (λ k. k ≡ tree_of self.entry) }
     {
         if self.at == 0 {
-            Kept::root(alloc, self.input, self.sheet)
+            Kept::root(alloc, self.input, self.held)
         } else {
-            Kept::part(alloc, self.input, self.sheet, self.at, self.behind())
+            Kept::part(alloc, self.input, self.held.sheet(), self.at, self.behind())
         }
     }
 }
@@ -278,7 +279,7 @@ fn text_in<'a>(source: &'a [u8], span: Span) -> &'a str
 #[derive(Drop)]
 pub struct Items<'a> {
     input: &'a [u8],
-    sheet: &'a Sheet,
+    held: &'a Held,
     fixed: usize,
     at: u32,
     left: u32,
@@ -291,6 +292,7 @@ impl<'a> Model for Items<'a> {
     ghost use Rattle.sw_tree.specs.Seen.{Seen, coded_seen, row};
     ghost use Rattle.sw_tree.specs.View.{place_in};
     ghost use Rattle.sw_tree.specs.Sheet.{sheet_store};
+    ghost use Rattle.sw_tree.specs.Held.{held_sheet};
 
     ghost Value = { List Seen };
 
@@ -298,9 +300,9 @@ impl<'a> Model for Items<'a> {
 
     ghost use Rattle.sw_tree.specs.Cells.{forest, Formed};
 
-    ghost view = { λ a. row a.counts (place_in a.counts a.fixed a.at) (take a.left (forest (sheet_store a.input.now a.sheet.now) (drop a.at a.sheet.now.cells.items))) };
+    ghost view = { λ a. row a.counts (place_in a.counts a.fixed a.at) (take a.left (forest (sheet_store a.input.now (held_sheet a.held.now)) (drop a.at (held_sheet a.held.now).cells.items))) };
 
-    ghost invariant = { λ a. Formed (sheet_store a.input.now a.sheet.now) a.sheet.now.cells.items × (a.left ≤ length (forest (sheet_store a.input.now a.sheet.now) (drop a.at a.sheet.now.cells.items))) };
+    ghost invariant = { λ a. Formed (sheet_store a.input.now (held_sheet a.held.now)) (held_sheet a.held.now).cells.items × (a.left ≤ length (forest (sheet_store a.input.now (held_sheet a.held.now)) (drop a.at (held_sheet a.held.now).cells.items))) };
 }
 
 impl<'a> Iterator for Items<'a> {
@@ -319,7 +321,7 @@ impl<'a> Iterator for Items<'a> {
         }
         let view = View {
             input: self.input,
-            sheet: self.sheet,
+            held: self.held,
             fixed: self.fixed,
             at: self.at,
             counts: self.counts,
@@ -334,7 +336,7 @@ impl<'a> Iterator for Items<'a> {
 #[derive(Drop)]
 pub struct Entries<'a> {
     input: &'a [u8],
-    sheet: &'a Sheet,
+    held: &'a Held,
     fixed: usize,
     at: u32,
     left: u32,
@@ -348,6 +350,7 @@ impl<'a> Model for Entries<'a> {
     ghost use Rattle.sw_tree.specs.Seen.{Seen, coded_seen, entry_row};
     ghost use Rattle.sw_tree.specs.View.{place_in};
     ghost use Rattle.sw_tree.specs.Sheet.{sheet_store};
+    ghost use Rattle.sw_tree.specs.Held.{held_sheet};
 
     ghost Value = { List (Seen × Seen) };
 
@@ -355,9 +358,9 @@ impl<'a> Model for Entries<'a> {
 
     ghost use Rattle.sw_tree.specs.Cells.{forest, Formed};
 
-    ghost view = { λ a. entry_row a.counts (place_in a.counts a.fixed a.at) (turns (take (a.left + a.left) (forest (sheet_store a.input.now a.sheet.now) (drop a.at a.sheet.now.cells.items)))) };
+    ghost view = { λ a. entry_row a.counts (place_in a.counts a.fixed a.at) (turns (take (a.left + a.left) (forest (sheet_store a.input.now (held_sheet a.held.now)) (drop a.at (held_sheet a.held.now).cells.items)))) };
 
-    ghost invariant = { λ a. Formed (sheet_store a.input.now a.sheet.now) a.sheet.now.cells.items × (a.left + a.left ≤ length (forest (sheet_store a.input.now a.sheet.now) (drop a.at a.sheet.now.cells.items))) };
+    ghost invariant = { λ a. Formed (sheet_store a.input.now (held_sheet a.held.now)) (held_sheet a.held.now).cells.items × (a.left + a.left ≤ length (forest (sheet_store a.input.now (held_sheet a.held.now)) (drop a.at (held_sheet a.held.now).cells.items))) };
 }
 
 impl<'a> Iterator for Entries<'a> {
@@ -376,14 +379,14 @@ impl<'a> Iterator for Entries<'a> {
         }
         let key = View {
             input: self.input,
-            sheet: self.sheet,
+            held: self.held,
             fixed: self.fixed,
             at: self.at,
             counts: self.counts,
         };
         let value = View {
             input: self.input,
-            sheet: self.sheet,
+            held: self.held,
             fixed: self.fixed,
             at: key.behind(),
             counts: self.counts,
