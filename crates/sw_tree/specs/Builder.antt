@@ -1,5 +1,5 @@
 -- What a builder of documents means.
-use Rattle.std.specs.Prelude.{ℕ, ◌+◌, ◌%◌, ◌/◌, ◌<◌, ◌≤◌, ◌≡◌, List, [], ◌∷◌, ◌++◌, length, take, drop, Bool, true, false, Option, Some, None, refl}
+use Rattle.std.specs.Prelude.{ℕ, ◌+◌, ◌%◌, ◌/◌, ◌<◌, ◌≤◌, ◌≡◌, List, [], ◌∷◌, ◌++◌, length, take, drop, nat_le, nat_eq, Bool, true, false, Option, Some, None, refl}
 use Rattle.std.specs.Coded.{Coded, code_by, coded×, coded_list, coded_ℕ, coded_bool, coded_option}
 use Rattle.sw_tree.specs.Tree as tree
 use Rattle.sw_tree.specs.Tree.{Tree, trees, entries, turns, trees_depth}
@@ -67,6 +67,27 @@ CanCloseFrom (f ∷ outer) = IsComplete f.is_map f.children
 
 abbrev pub CanClose : Built → Type 0
 CanClose b = CanCloseFrom b.frames
+
+-- there is no root yet, and there are no more levels than that
+abbrev pub has_room : Option Tree → ℕ → Bool
+has_room None n = nat_le n 128
+has_room (Some t) n = false
+
+-- that a tree of so many levels can be added
+abbrev pub takes : Built → ℕ → Bool
+takes b n = has_room b.root (length b.frames + n)
+
+abbrev pub is_complete : Bool → List Tree → Bool
+is_complete false ts = true
+is_complete true ts = nat_eq (length ts % 2) 0
+
+abbrev pub can_close_from : List Frame → Bool
+can_close_from [] = false
+can_close_from (f ∷ outer) = is_complete f.is_map f.children
+
+-- that the innermost can be closed
+abbrev pub can_close : Built → Bool
+can_close b = can_close_from b.frames
 
 abbrev pub root_of : List Tree → Option Tree
 root_of [] = None
