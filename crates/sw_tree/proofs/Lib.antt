@@ -15,6 +15,7 @@ pub mod Parts
 pub mod PathLemmas
 pub mod Plains
 pub mod Remaining
+pub mod Rooms
 pub mod Rows
 pub mod Runs
 pub mod Shorts

@@ -215,10 +215,11 @@ impl<'de> DocBuilder<'de> {
     pub(crate) fn takes(&self, levels: u8) -> bool
         ensures { result ≡ takes self.now levels }
     {
-        if self.opens.is_empty() && self.kids > 0 {
+        let open = self.opens.len();
+        if open == 0 && self.kids > 0 {
             return false;
         }
-        self.opens.len() + levels as usize <= 128
+        open + levels as usize <= 128
     }
 
     /// Whether something is open, and the innermost has, if it is a map, as many keys as values.

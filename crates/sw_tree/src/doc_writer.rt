@@ -109,7 +109,12 @@ impl<'de> DocWriter<'de> {
         requires { is_some (document self.kept) ≡ true }
         ensures { Some result ≡ document self.entry.kept }
     {
-        match self.doc {
+        let DocWriter {
+            top: _,
+            outer: _,
+            doc,
+        } = self;
+        match doc {
             Some(doc) => doc.finish(),
             None => unreachable!(),
         }
