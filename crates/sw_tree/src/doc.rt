@@ -1,5 +1,6 @@
 use crate::cell::Cell;
 use crate::from_node::document_of;
+use crate::kept::Kept;
 use crate::node::Node;
 use crate::sheet::Sheet;
 use crate::view::View;
@@ -65,6 +66,14 @@ impl<'de> Doc<'de> {
         ensures { IfOk result (λ d. d ≡ record { tree = node.entry.now; side_len = content_len node.entry.now }) }
     {
         document_of(alloc, node)
+    }
+
+    /// The document, with a copy of its input.
+    pub(crate) fn into_kept(self, alloc: Global) -> Result<Kept, AllocError>
+        ensures { IfOk result (λ k. k ≡ self.entry.tree) }
+    {
+        let Doc { input, sheet } = self;
+        Kept::of_sheet(alloc, input, sheet)
     }
 
     /// The root, whose place is 0, and whose nodes below count on from there.

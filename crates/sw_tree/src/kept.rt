@@ -44,6 +44,17 @@ impl Kept {
         })
     }
 
+    /// The document of that sheet, with a copy of that input.
+    pub(crate) fn of_sheet(alloc: Global, input: &[u8], sheet: Sheet) -> Result<Kept, AllocError>
+        requires { Formed (sheet_store input.now sheet) sheet.cells.items }
+        ensures { IfOk result (λ k. k ≡ sheet_tree input.now sheet) }
+    {
+        Ok(Kept {
+            input: Vec::from_slice(alloc, input)?,
+            sheet,
+        })
+    }
+
     /// The document of a node's cells alone, those from `at` to `end`, copied with the ranges
     /// that they point into.
     pub(crate) fn part(
