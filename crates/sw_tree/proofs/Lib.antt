@@ -3,7 +3,6 @@ pub mod CellLemmas
 pub mod Children
 pub mod Fitting
 pub mod Foreigns
-pub mod Gained
 pub mod Gathered
 pub mod GrowLemmas
 pub mod ImageLemmas

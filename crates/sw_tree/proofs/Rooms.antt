@@ -1,11 +1,11 @@
 -- What a builder has room for.
-use Rattle.std.proofs.Common.{◌≡◌, ℕ, ◌+◌, List, [], ◌∷◌, length, Option, Some, None, refl, ap, ◌∙◌, arith}
+use Rattle.std.proofs.Common.{◌≡◌, ℕ, ◌+◌, List, [], ◌∷◌, length, None, refl, arith}
 use Rattle.std.specs.Prelude.{nat_le}
 use Rattle.sw_tree.specs.declared.builder.Open.{Open}
 use Rattle.sw_tree.specs.declared.cell.Cell.{Cell}
 use Rattle.sw_tree.specs.Tree.{Tree}
 use Rattle.sw_tree.specs.Cells.{Store, forest}
-use Rattle.sw_tree.specs.Builder.{Stacked, meant, takes, has_room, root_of, done_of}
+use Rattle.sw_tree.specs.Builder.{Stacked, meant, takes, root_of}
 use Rattle.sw_tree.proofs.BuilderLemmas.{rootless, frames_len}
 
 none_root : (ts : List Tree) → length ts ≡ 0 → root_of ts ≡ None

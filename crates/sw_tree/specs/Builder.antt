@@ -29,14 +29,6 @@ added_to b (f ∷ outer) t = record { input = b.input; side_len = b.side_len; fr
 abbrev pub added : Built → Tree → Built
 added b t = added_to b b.frames t
 
-abbrev pub gained_in : Built → List Frame → List Tree → Built
-gained_in b [] ts = b
-gained_in b (f ∷ outer) ts = record { input = b.input; side_len = b.side_len; frames = record { is_map = f.is_map; children = f.children ++ ts } ∷ outer; root = b.root }
-
--- with these further children of the innermost
-abbrev pub gained : Built → List Tree → Built
-gained b ts = gained_in b b.frames ts
-
 -- with that many bytes more beside the input
 abbrev pub longer : Built → ℕ → Built
 longer b n = record { input = b.input; side_len = b.side_len + n; frames = b.frames; root = b.root }
@@ -77,6 +69,7 @@ has_room (Some t) n = false
 abbrev pub takes : Built → ℕ → Bool
 takes b n = has_room b.root (length b.frames + n)
 
+-- the same as a test
 abbrev pub is_complete : Bool → List Tree → Bool
 is_complete false ts = true
 is_complete true ts = nat_eq (length ts % 2) 0

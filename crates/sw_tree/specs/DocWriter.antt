@@ -1,15 +1,16 @@
--- What a writer of documents means: how many levels the parts of each open list and map have, the innermost first and the outermost level
--- last, and what the document's builder means, where the document isn't lost.
-use Rattle.std.specs.Prelude.{◌≡◌, ◌≤◌, ◌<◌, ℕ, suc, max, ◌+◌, ◌%◌, List, [], ◌∷◌, ◌++◌, length, cond, nat_le, nat_eq, Bool, true, false, Option, Some, None, Result, Ok, Err, refl}
+-- What a writer of documents means: how many levels the parts of the innermost list or map have, and those of each around it, the innermost
+-- first; and what the document's builder means, until the document is lost.
+use Rattle.std.specs.Prelude.{◌≡◌, ◌≤◌, ◌<◌, ℕ, suc, max, ◌+◌, ◌%◌, List, [], ◌∷◌, ◌++◌, length, cond, nat_le, Bool, true, false, Option, Some, None, Result, Ok, Err, refl}
 use Rattle.std.specs.Coded.{Coded, code_by, coded×, coded_list, coded_ℕ, coded_option}
-use Rattle.std.proofs.Common.{ap, ◌∙◌, sym, arith, append_assoc, eq-eqb}
+use Rattle.std.proofs.Common.{ap, ◌∙◌, sym, arith, eq-eqb}
 use Rattle.std.proofs.lemmas.List.{append-nil}
 use Rattle.std.proofs.lemmas.Bool.{le-leb, lt-leb, leb-true, leb-false}
 use Rattle.std.proofs.lemmas.Bool.Decides.{nat_tests}
-use Rattle.sw_tree.specs.Tree.{Tree, Trees, list, map, trees, entries, turns, by_turns, depth, trees_depth, entries_depth, content_len, trees_content_len, entries_content_len}
+use Rattle.sw_tree.specs.Tree.{Tree, list, map, trees, entries, by_turns, depth, trees_depth, entries_depth, content_len, trees_content_len, entries_content_len}
 use Rattle.sw_tree.specs.Builder as builder
 use Rattle.sw_tree.specs.Builder.{Built, Frame, coded_built, added, longer, is_complete, takes, can_close}
 use Rattle.sw_tree.specs.Building.{within, with_put, puts}
+use Rattle.sw_tree.specs.NodeBuilder.{regroup, turns-by_turns}
 use Rattle.sw_tree.specs.Doc.{Document}
 use Rattle.sw_tree.specs.declared.fail.SerError.{SerError}
 use Rattle.sw_tree.specs.declared.fail.SerFail.{SerFail}
@@ -19,12 +20,12 @@ use Rattle.sw_tree.specs.declared.fail.SerError.TheVariants as reason
 pub record Draft : Type 0 where
   pub top : ℕ
   pub outer : List ℕ
-  pub kept : Option Built
+  pub doc : Option Built
 
 abbrev pub coded_draft : Coded Draft
 coded_draft =
-    code_by ((ℕ × List ℕ) × Option Built) (coded× (coded× coded_ℕ (coded_list coded_ℕ)) (coded_option coded_built)) (λ d. ((d.top, d.outer), d.kept))
-    (λ p. record { top = p.0.0; outer = p.0.1; kept = p.1 }) (λ _. refl)
+    code_by ((ℕ × List ℕ) × Option Built) (coded× (coded× coded_ℕ (coded_list coded_ℕ)) (coded_option coded_built)) (λ d. ((d.top, d.outer), d.doc))
+    (λ p. record { top = p.0.0; outer = p.0.1; doc = p.1 }) (λ _. refl)
 
 -- ---- the builder, where it takes what comes
 
@@ -33,32 +34,32 @@ abbrev pub with_room : Option Built → ℕ → Option Built
 with_room None n = None
 with_room (Some b) n = cond (takes b n) (Some b) None
 
-abbrev pub put_kept : Tree → Option Built → Option Built
-put_kept t None = None
-put_kept t (Some b) = cond (takes b (depth t)) (Some (added (longer b (content_len t)) t)) None
+abbrev pub put_doc : Tree → Option Built → Option Built
+put_doc t None = None
+put_doc t (Some b) = cond (takes b (depth t)) (Some (added (longer b (content_len t)) t)) None
 
-abbrev pub open_kept : Bool → Option Built → Option Built
-open_kept m None = None
-open_kept m (Some b) = cond (takes b 1) (Some (builder.opened b m)) None
+abbrev pub open_doc : Bool → Option Built → Option Built
+open_doc m None = None
+open_doc m (Some b) = cond (takes b 1) (Some (builder.opened b m)) None
 
-abbrev pub close_kept : Option Built → Option Built
-close_kept None = None
-close_kept (Some b) = cond (can_close b) (Some (builder.closed b)) None
+abbrev pub close_doc : Option Built → Option Built
+close_doc None = None
+close_doc (Some b) = cond (can_close b) (Some (builder.closed b)) None
 
 -- ---- what a writer means
 
 abbrev pub fresh : Draft
-fresh = record { top = 0; outer = []; kept = Some (record { input = []; side_len = 0; frames = []; root = None }) }
+fresh = record { top = 0; outer = []; doc = Some (record { input = []; side_len = 0; frames = []; root = None }) }
 
 abbrev pub put : Tree → Draft → Draft
-put t d = record { top = max d.top (depth t); outer = d.outer; kept = put_kept t d.kept }
+put t d = record { top = max d.top (depth t); outer = d.outer; doc = put_doc t d.doc }
 
 abbrev pub opened : Bool → Draft → Draft
-opened m d = record { top = 0; outer = d.top ∷ d.outer; kept = open_kept m d.kept }
+opened m d = record { top = 0; outer = d.top ∷ d.outer; doc = open_doc m d.doc }
 
 abbrev pub closed_to : Draft → List ℕ → Result Draft SerError
 closed_to d [] = Ok d
-closed_to d (n ∷ ns) = cond (nat_le (suc d.top) 128) (Ok (record { top = max n (suc d.top); outer = ns; kept = close_kept d.kept })) (Err reason.TooDeep)
+closed_to d (n ∷ ns) = cond (nat_le (suc d.top) 128) (Ok (record { top = max n (suc d.top); outer = ns; doc = close_doc d.doc })) (Err reason.TooDeep)
 
 abbrev pub closed : Draft → Result Draft SerError
 closed d = closed_to d d.outer
@@ -80,7 +81,7 @@ built_of (Err e) = Err ser.Memory
 -- ---- the laws
 
 abbrev at : ℕ → List ℕ → Option Built → Draft
-at n ns k = record { top = n; outer = ns; kept = k }
+at n ns k = record { top = n; outer = ns; doc = k }
 
 max_none : (n : ℕ) → n ≡ max n 0
 max_none n = omega arith
@@ -91,11 +92,11 @@ max_more n a b = omega arith
 max_from : (n : ℕ) → max 0 n ≡ n
 max_from n = omega arith
 
-puts-at : (n : ℕ) (ns : List ℕ) (k : Option Built) (ts : List Tree) → puts put ts (at n ns k) ≡ at (max n (trees_depth (trees ts))) ns (puts put_kept ts k)
+puts-at : (n : ℕ) (ns : List ℕ) (k : Option Built) (ts : List Tree) → puts put ts (at n ns k) ≡ at (max n (trees_depth (trees ts))) ns (puts put_doc ts k)
 puts-at n ns k [] = ap (λ m. at m ns k) (max_none n)
-puts-at n ns k (t ∷ ts) = puts-at (max n (depth t)) ns (put_kept t k) ts ∙ ap (λ m. at m ns (puts put_kept ts (put_kept t k))) (max_more n (depth t) (trees_depth (trees ts)))
+puts-at n ns k (t ∷ ts) = puts-at (max n (depth t)) ns (put_doc t k) ts ∙ ap (λ m. at m ns (puts put_doc ts (put_doc t k))) (max_more n (depth t) (trees_depth (trees ts)))
 
-puts-lost : (ts : List Tree) → puts put_kept ts None ≡ None
+puts-lost : (ts : List Tree) → puts put_doc ts None ≡ None
 puts-lost [] = refl
 puts-lost (t ∷ ts) = puts-lost ts
 
@@ -103,8 +104,8 @@ puts-lost (t ∷ ts) = puts-lost ts
 abbrev gained : List ℕ → ℕ → Bool → List Tree → List Frame → Built
 gained i s m cs o = record { input = i; side_len = s; frames = record { is_map = m; children = cs } ∷ o; root = None }
 
-abbrev kept_if : Bool → Built → Option Built
-kept_if b x = cond b (Some x) None
+abbrev doc_if : Bool → Built → Option Built
+doc_if b x = cond b (Some x) None
 
 same : (i : List ℕ) (a s : ℕ) (m : Bool) (cs ds : List Tree) (o : List Frame) → a ≡ s → cs ≡ ds → gained i a m cs o ≡ gained i s m ds o
 same i a s m cs ds o e f = rw (e, f) refl
@@ -115,32 +116,29 @@ more_room n a b h = grind (arith, nat_tests)
 less_room : (n a b : ℕ) → 128 < n + a → nat_le (n + max a b) 128 ≡ false
 less_room n a b h = lt-leb (n + max a b) 128 (omega arith)
 
-regroup : (cs : List Tree) (t : Tree) (ts : List Tree) → (cs ++ t ∷ []) ++ ts ≡ cs ++ t ∷ ts
-regroup cs t ts = rw append_assoc refl
-
 -- the builder with these children gained, where they have no more levels than it takes
 abbrev filled : List ℕ → ℕ → Bool → List Tree → List Tree → List Frame → Option Built
-filled i s m cs ts o = kept_if (nat_le (suc (length o) + trees_depth (trees ts)) 128) (gained i (s + trees_content_len (trees ts)) m (cs ++ ts) o)
+filled i s m cs ts o = doc_if (nat_le (suc (length o) + trees_depth (trees ts)) 128) (gained i (s + trees_content_len (trees ts)) m (cs ++ ts) o)
 
 fill-more : (b : Bool) (i : List ℕ) (s : ℕ) (m : Bool) (cs : List Tree) (t : Tree) (ts : List Tree) (o : List Frame) → nat_le (suc (length o) + depth t) 128 ≡ b →
-    puts put_kept ts (Some (gained i (s + content_len t) m (cs ++ t ∷ []) o)) ≡ filled i (s + content_len t) m (cs ++ t ∷ []) ts o → puts put_kept ts (kept_if b (gained i (s + content_len t) m (cs ++ t ∷ []) o)) ≡ filled i s m cs (t ∷ ts) o
+    puts put_doc ts (Some (gained i (s + content_len t) m (cs ++ t ∷ []) o)) ≡ filled i (s + content_len t) m (cs ++ t ∷ []) ts o → puts put_doc ts (doc_if b (gained i (s + content_len t) m (cs ++ t ∷ []) o)) ≡ filled i s m cs (t ∷ ts) o
 fill-more true i s m cs t ts o e h =
     let a = more_room (suc (length o)) (depth t) (trees_depth (trees ts)) (leb-true _ _ e) in
     let b = same i (s + content_len t + trees_content_len (trees ts)) (s + (content_len t + trees_content_len (trees ts))) m ((cs ++ t ∷ []) ++ ts) (cs ++ t ∷ ts) o (omega arith) (regroup cs t ts) in
-    h ∙ ap (λ r. kept_if r (gained i (s + content_len t + trees_content_len (trees ts)) m ((cs ++ t ∷ []) ++ ts) o)) a ∙ ap (kept_if (nat_le (suc (length o) + max (depth t) (trees_depth (trees ts))) 128)) b
+    h ∙ ap (λ r. doc_if r (gained i (s + content_len t + trees_content_len (trees ts)) m ((cs ++ t ∷ []) ++ ts) o)) a ∙ ap (doc_if (nat_le (suc (length o) + max (depth t) (trees_depth (trees ts))) 128)) b
 fill-more false i s m cs t ts o e h =
     let a = less_room (suc (length o)) (depth t) (trees_depth (trees ts)) (leb-false _ _ e) in
-    puts-lost ts ∙ sym (ap (λ r. kept_if r (gained i (s + (content_len t + trees_content_len (trees ts))) m (cs ++ t ∷ ts) o)) a)
+    puts-lost ts ∙ sym (ap (λ r. doc_if r (gained i (s + (content_len t + trees_content_len (trees ts))) m (cs ++ t ∷ ts) o)) a)
 
-fill : (i : List ℕ) (s : ℕ) (m : Bool) (cs ts : List Tree) (o : List Frame) → suc (length o) ≤ 128 → puts put_kept ts (Some (gained i s m cs o)) ≡ filled i s m cs ts o
+fill : (i : List ℕ) (s : ℕ) (m : Bool) (cs ts : List Tree) (o : List Frame) → suc (length o) ≤ 128 → puts put_doc ts (Some (gained i s m cs o)) ≡ filled i s m cs ts o
 fill i s m cs [] o h =
     let a : nat_le (suc (length o) + 0) 128 ≡ true = le-leb (suc (length o) + 0) 128 (omega arith) in
-    ap Some (same i s (s + 0) m cs (cs ++ []) o (omega arith) (sym (append-nil cs))) ∙ sym (ap (λ r. kept_if r (gained i (s + 0) m (cs ++ []) o)) a)
+    ap Some (same i s (s + 0) m cs (cs ++ []) o (omega arith) (sym (append-nil cs))) ∙ sym (ap (λ r. doc_if r (gained i (s + 0) m (cs ++ []) o)) a)
 fill i s m cs (t ∷ ts) o h = fill-more (nat_le (suc (length o) + depth t) 128) i s m cs t ts o refl (fill i (s + content_len t) m (cs ++ t ∷ []) ts o h)
 
 -- what was opened and gained all its children is closed
 close-gained : (i : List ℕ) (s : ℕ) (m : Bool) (ts : List Tree) (f : List Frame) (t : Tree) → builder.built_tree m ts ≡ t → is_complete m ts ≡ true → (b : Bool) →
-    close_kept (kept_if b (gained i s m ts f)) ≡ kept_if b (builder.added_to (record { input = i; side_len = s; frames = f; root = None }) f t)
+    close_doc (doc_if b (gained i s m ts f)) ≡ doc_if b (builder.added_to (record { input = i; side_len = s; frames = f; root = None }) f t)
 close-gained i s m ts f t is full false = refl
 close-gained i s m ts [] t is full true = rw (full, is) refl
 close-gained i s m ts (g ∷ gs) t is full true = rw (full, is) refl
@@ -153,26 +151,26 @@ record Parts (m : Bool) (ts : List Tree) (t : Tree) : Type 0 where
   long : content_len t ≡ trees_content_len (trees ts)
 
 close-room : (b : Bool) (i : List ℕ) (s : ℕ) (f : List Frame) (m : Bool) (ts : List Tree) (t : Tree) → Parts m ts t → nat_le (length f + 1) 128 ≡ b →
-    close_kept (puts put_kept ts (kept_if b (gained i s m [] f))) ≡ put_kept t (Some (record { input = i; side_len = s; frames = f; root = None }))
+    close_doc (puts put_doc ts (doc_if b (gained i s m [] f))) ≡ put_doc t (Some (record { input = i; side_len = s; frames = f; root = None }))
 close-room true i s f m ts t p e =
     let room : suc (length f) ≤ 128 = omega (arith, leb-true _ _ e) in
     let sum : suc (length f) + trees_depth (trees ts) ≡ length f + depth t = omega (arith, p.levels) in
-    ap close_kept (fill i s m [] ts f room)
+    ap close_doc (fill i s m [] ts f room)
     ∙ close-gained i (s + trees_content_len (trees ts)) m ts f t p.is p.full (nat_le (suc (length f) + trees_depth (trees ts)) 128)
-    ∙ ap (λ n. kept_if (nat_le n 128) (builder.added_to (record { input = i; side_len = s + trees_content_len (trees ts); frames = f; root = None }) f t)) sum
-    ∙ ap (λ n. kept_if (nat_le (length f + depth t) 128) (builder.added_to (record { input = i; side_len = s + n; frames = f; root = None }) f t)) (sym p.long)
+    ∙ ap (λ n. doc_if (nat_le n 128) (builder.added_to (record { input = i; side_len = s + trees_content_len (trees ts); frames = f; root = None }) f t)) sum
+    ∙ ap (λ n. doc_if (nat_le (length f + depth t) 128) (builder.added_to (record { input = i; side_len = s + n; frames = f; root = None }) f t)) (sym p.long)
 close-room false i s f m ts t p e =
     let none : nat_le (length f + depth t) 128 ≡ false = lt-leb (length f + depth t) 128 (omega (arith, p.levels, leb-false _ _ e)) in
-    ap close_kept (puts-lost ts) ∙ sym (ap (λ r. kept_if r (added (longer (record { input = i; side_len = s; frames = f; root = None }) (content_len t)) t)) none)
+    ap close_doc (puts-lost ts) ∙ sym (ap (λ r. doc_if r (added (longer (record { input = i; side_len = s; frames = f; root = None }) (content_len t)) t)) none)
 
 close-put : (i : List ℕ) (s : ℕ) (f : List Frame) (r : Option Tree) (m : Bool) (ts : List Tree) (t : Tree) → Parts m ts t →
-    close_kept (puts put_kept ts (open_kept m (Some (record { input = i; side_len = s; frames = f; root = r })))) ≡ put_kept t (Some (record { input = i; side_len = s; frames = f; root = r }))
+    close_doc (puts put_doc ts (open_doc m (Some (record { input = i; side_len = s; frames = f; root = r })))) ≡ put_doc t (Some (record { input = i; side_len = s; frames = f; root = r }))
 close-put i s f None m ts t p = close-room (nat_le (length f + 1) 128) i s f m ts t p refl
-close-put i s f (Some x) m ts t p = ap close_kept (puts-lost ts)
+close-put i s f (Some x) m ts t p = ap close_doc (puts-lost ts)
 
-kept-law : (k : Option Built) (m : Bool) (ts : List Tree) (t : Tree) → Parts m ts t → close_kept (puts put_kept ts (open_kept m k)) ≡ put_kept t k
-kept-law None m ts t p = ap close_kept (puts-lost ts)
-kept-law (Some b) m ts t p = close-put b.input b.side_len b.frames b.root m ts t p
+doc-law : (k : Option Built) (m : Bool) (ts : List Tree) (t : Tree) → Parts m ts t → close_doc (puts put_doc ts (open_doc m k)) ≡ put_doc t k
+doc-law None m ts t p = ap close_doc (puts-lost ts)
+doc-law (Some b) m ts t p = close-put b.input b.side_len b.frames b.root m ts t p
 
 close-within : (b : Bool) (x d : Draft) (t : Tree) → x ≡ put t d → cond b (Ok x) (Err reason.TooDeep) ≡ with_put put (cond b (Ok t) (Err reason.TooDeep)) d
 close-within true x d t e = ap Ok e
@@ -180,18 +178,14 @@ close-within false x d t e = refl
 
 law : (d : Draft) (m : Bool) (ts : List Tree) (t : Tree) → Parts m ts t → closed (puts put ts (opened m d)) ≡ with_put put (within t) d
 law d m ts t p =
-    let k = kept-law d.kept m ts t p in
+    let k = doc-law d.doc m ts t p in
     let n = trees_depth (trees ts) in
-    ap closed (puts-at 0 (d.top ∷ d.outer) (open_kept m d.kept) ts ∙ ap (λ a. at a (d.top ∷ d.outer) (puts put_kept ts (open_kept m d.kept))) (max_from n))
-    ∙ ap (λ a. cond (nat_le a 128) (Ok (at (max d.top a) d.outer (close_kept (puts put_kept ts (open_kept m d.kept))))) (Err reason.TooDeep)) (sym p.levels)
-    ∙ close-within (nat_le (depth t) 128) (at (max d.top (depth t)) d.outer (close_kept (puts put_kept ts (open_kept m d.kept)))) d t (ap (at (max d.top (depth t)) d.outer) k)
+    ap closed (puts-at 0 (d.top ∷ d.outer) (open_doc m d.doc) ts ∙ ap (λ a. at a (d.top ∷ d.outer) (puts put_doc ts (open_doc m d.doc))) (max_from n))
+    ∙ ap (λ a. cond (nat_le a 128) (Ok (at (max d.top a) d.outer (close_doc (puts put_doc ts (open_doc m d.doc))))) (Err reason.TooDeep)) (sym p.levels)
+    ∙ close-within (nat_le (depth t) 128) (at (max d.top (depth t)) d.outer (close_doc (puts put_doc ts (open_doc m d.doc)))) d t (ap (at (max d.top (depth t)) d.outer) k)
 
 pub lists : (d : Draft) (ts : List Tree) → closed (puts put ts (opened false d)) ≡ with_put put (within (list (trees ts))) d
 lists d ts = law d false ts (list (trees ts)) (record { is = refl; full = refl; levels = refl; long = refl })
-
-turns-by_turns : (es : List (Tree × Tree)) → turns (by_turns es) ≡ es
-turns-by_turns [] = refl
-turns-by_turns (e ∷ es) = ap (λ r. e ∷ r) (turns-by_turns es)
 
 even : (es : List (Tree × Tree)) → length (by_turns es) % 2 ≡ 0
 even [] = refl
@@ -217,7 +211,7 @@ maps d es =
     law d true (by_turns es) (map (entries es)) p
 
 -- the tree that was put into a fresh writer is the document's, with copies of all its texts and byte strings
-pub document_put : (t : Tree) → depth t ≤ 128 → document (put_kept t fresh.kept) ≡ Some (record { tree = t; side_len = content_len t })
+pub document_put : (t : Tree) → depth t ≤ 128 → document (put_doc t fresh.doc) ≡ Some (record { tree = t; side_len = content_len t })
 document_put t h =
     let a : nat_le (0 + depth t) 128 ≡ true = le-leb (0 + depth t) 128 (omega arith) in
-    ap (λ r. document (kept_if r (record { input = []; side_len = 0 + content_len t; frames = []; root = Some t }))) a ∙ ap (λ n. document_at (Some t) n) (omega arith)
+    ap (λ r. document (doc_if r (record { input = []; side_len = 0 + content_len t; frames = []; root = Some t }))) a ∙ ap (λ n. document_at (Some t) n) (omega arith)

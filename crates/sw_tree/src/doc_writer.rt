@@ -1,6 +1,6 @@
 ghost use Rattle.std.specs.Prelude.{◌≡◌, Ok, Some, true, is_some};
 ghost use Rattle.sw_tree.specs.Building.{IsBuilt};
-ghost use Rattle.sw_tree.specs.DocWriter.{with_room, close_kept, built_of, document};
+ghost use Rattle.sw_tree.specs.DocWriter.{with_room, close_doc, built_of, document};
 
 use crate::builder::DocBuilder;
 use crate::builds::Builds;
@@ -14,8 +14,8 @@ use std::marker::Model;
 
 /// A document that is built part by part, with copies of all texts and byte strings beside its input, which is empty.
 ///
-/// That a list or map is too deep is told when it closes, so more may be open than a document takes. The document is
-/// then lost, and what comes is only counted.
+/// That a list or map is too deep is told when it closes, so more of them may be open than a document takes. The
+/// document is then lost, and of what comes the levels alone are counted.
 #[derive(Drop)]
 pub(crate) struct DocWriter<'de> {
     top: u8,
@@ -31,7 +31,7 @@ impl<'de> Model for DocWriter<'de> {
 
     ghost coded = { coded_draft };
 
-    ghost view = { λ w. record { top = w.top; outer = reverse w.outer.items; kept = w.doc } };
+    ghost view = { λ w. record { top = w.top; outer = reverse w.outer.items; doc = w.doc } };
 }
 
 /// Gives the document up where it doesn't take a tree of so many levels.
@@ -49,7 +49,7 @@ fn make_room(doc: &mut Option<DocBuilder<'_>>, levels: u8)
 
 /// Closes the innermost list or map, and gives the document up where a map has a key without a value.
 fn close_innermost(doc: &mut Option<DocBuilder<'_>>) -> Result<(), SerFail>
-    ensures { IsBuilt result (Ok (close_kept doc.old)) doc.new }
+    ensures { IsBuilt result (Ok (close_doc doc.old)) doc.new }
 {
     let complete = match doc {
         Some(builder) => builder.can_close(),
@@ -65,7 +65,7 @@ fn close_innermost(doc: &mut Option<DocBuilder<'_>>) -> Result<(), SerFail>
     }
 }
 
-/// The same answer, as one of writing.
+/// A builder's answer, as one of writing.
 fn built(answer: Result<(), AllocError>) -> Result<(), SerFail>
     ensures { result ≡ built_of answer }
 {
@@ -104,10 +104,10 @@ impl<'de> DocWriter<'de> {
         }
     }
 
-    /// The document of the tree that was put in.
+    /// The document of the tree that was put in. It takes no memory.
     pub(crate) fn finish(self) -> Doc<'de>
-        requires { is_some (document self.kept) ≡ true }
-        ensures { Some result ≡ document self.entry.kept }
+        requires { is_some (document self.doc) ≡ true }
+        ensures { Some result ≡ document self.entry.doc }
     {
         let DocWriter {
             top: _,
