@@ -3,7 +3,6 @@ pub mod CellLemmas
 pub mod Children
 pub mod Fitting
 pub mod Foreigns
-pub mod Gained
 pub mod Gathered
 pub mod GrowLemmas
 pub mod ImageLemmas
@@ -15,6 +14,7 @@ pub mod Parts
 pub mod PathLemmas
 pub mod Plains
 pub mod Remaining
+pub mod Rooms
 pub mod Rows
 pub mod Runs
 pub mod Shorts

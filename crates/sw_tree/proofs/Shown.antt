@@ -6,7 +6,6 @@ use Rattle.sw_tree.specs.declared.view.View.{View}
 use Rattle.sw_tree.specs.declared.cell.Cell.TheVariants.{Null}
 use Rattle.sw_tree.specs.Cells.{forest, first}
 use Rattle.sw_tree.specs.View.{seen, tree_of, store_of}
-use Rattle.sw_tree.specs.Held.{held_sheet}
 use Rattle.sw_tree.proofs.CellLemmas.{is_at}
 
 trees_of-row : (c : Bool) (p : ℕ) (ts : List Tree) → trees_of (row c p ts) ≡ ts
@@ -46,6 +45,6 @@ map_seen s xs h = map_at s.tree s.place s.counts xs h
 pub shallow_view : (v : View) → depth (tree_of v) ≤ 128
 unfolding seen forest
 shallow_view v =
-    let here = is_at (store_of v) (held_sheet v.held.now).cells.items v.at Null v.inside v.formed in
+    let here = is_at (store_of v) v.sheet.now.cells.items v.at Null v.inside v.formed in
     let tree_is = ap (λ cs. first (forest (store_of v) cs)) here.means in
     rw tree_is here.fits.shallow

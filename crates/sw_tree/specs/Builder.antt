@@ -1,5 +1,5 @@
 -- What a builder of documents means.
-use Rattle.std.specs.Prelude.{ℕ, ◌+◌, ◌%◌, ◌/◌, ◌<◌, ◌≤◌, ◌≡◌, List, [], ◌∷◌, ◌++◌, length, take, drop, Bool, true, false, Option, Some, None, refl}
+use Rattle.std.specs.Prelude.{ℕ, ◌+◌, ◌%◌, ◌/◌, ◌<◌, ◌≤◌, ◌≡◌, List, [], ◌∷◌, ◌++◌, length, take, drop, nat_le, nat_eq, Bool, true, false, Option, Some, None, refl}
 use Rattle.std.specs.Coded.{Coded, code_by, coded×, coded_list, coded_ℕ, coded_bool, coded_option}
 use Rattle.sw_tree.specs.Tree as tree
 use Rattle.sw_tree.specs.Tree.{Tree, trees, entries, turns, trees_depth}
@@ -28,14 +28,6 @@ added_to b (f ∷ outer) t = record { input = b.input; side_len = b.side_len; fr
 -- with a further child of the innermost, or with the root
 abbrev pub added : Built → Tree → Built
 added b t = added_to b b.frames t
-
-abbrev pub gained_in : Built → List Frame → List Tree → Built
-gained_in b [] ts = b
-gained_in b (f ∷ outer) ts = record { input = b.input; side_len = b.side_len; frames = record { is_map = f.is_map; children = f.children ++ ts } ∷ outer; root = b.root }
-
--- with these further children of the innermost
-abbrev pub gained : Built → List Tree → Built
-gained b ts = gained_in b b.frames ts
 
 -- with that many bytes more beside the input
 abbrev pub longer : Built → ℕ → Built
@@ -67,6 +59,28 @@ CanCloseFrom (f ∷ outer) = IsComplete f.is_map f.children
 
 abbrev pub CanClose : Built → Type 0
 CanClose b = CanCloseFrom b.frames
+
+-- there is no root yet, and there are no more levels than that
+abbrev pub has_room : Option Tree → ℕ → Bool
+has_room None n = nat_le n 128
+has_room (Some t) n = false
+
+-- that a tree of so many levels can be added
+abbrev pub takes : Built → ℕ → Bool
+takes b n = has_room b.root (length b.frames + n)
+
+-- the same as a test
+abbrev pub is_complete : Bool → List Tree → Bool
+is_complete false ts = true
+is_complete true ts = nat_eq (length ts % 2) 0
+
+abbrev pub can_close_from : List Frame → Bool
+can_close_from [] = false
+can_close_from (f ∷ outer) = is_complete f.is_map f.children
+
+-- that the innermost can be closed
+abbrev pub can_close : Built → Bool
+can_close b = can_close_from b.frames
 
 abbrev pub root_of : List Tree → Option Tree
 root_of [] = None

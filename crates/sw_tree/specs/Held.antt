@@ -1,10 +1,29 @@
 -- The sheet that a document holds.
+use Rattle.std.specs.Prelude.{ℕ, ◌≡◌, List}
+use Rattle.std.specs.Arc.{arc_value}
+use Rattle.std.proofs.Props.{props}
+use base.Stored.{Coded-set}
+use Rattle.sw_tree.specs.Tree.{Tree}
+use Rattle.sw_tree.specs.TreeCode.{coded_tree}
 use Rattle.sw_tree.specs.declared.sheet.Sheet.{Sheet}
 use Rattle.sw_tree.specs.declared.held.Held.{Held}
 use Rattle.sw_tree.specs.declared.held.Held.TheVariants.{Own, Shared}
-use Rattle.std.specs.Arc.{arc_value}
+use Rattle.sw_tree.specs.Cells.{Formed}
+use Rattle.sw_tree.specs.Formed.{Formed-prop}
+use Rattle.sw_tree.specs.Sheet.{sheet_store, sheet_tree}
 
 -- its own, or the one that it shares
 abbrev pub held_sheet : Held → Sheet
 held_sheet (Own s) = s
 held_sheet (Shared a) = arc_value a
+
+-- what is held means the root's tree too
+pub record IsHeld (input : List ℕ) (s : Sheet) (h : Held) : Type 0 where
+  pub formed : Formed (sheet_store input (held_sheet h)) (held_sheet h).cells.items
+  pub same : sheet_tree input (held_sheet h) ≡ sheet_tree input s
+
+trees_set : (t u : Tree) → IsProp (t ≡ u)
+trees_set t u = Coded-set coded_tree t u
+
+pub IsHeld-prop : (input : List ℕ) (s : Sheet) (h : Held) → IsProp (IsHeld input s h)
+IsHeld-prop input s h = let formed = Formed-prop (sheet_store input (held_sheet h)) (held_sheet h).cells.items in hlevel (props, formed, trees_set)

@@ -39,6 +39,7 @@ pub mod Raw
 pub mod Faults
 pub mod Building
 pub mod NodeBuilder
+pub mod DocWriter
 pub mod Wires
 pub mod WireLaws
 pub mod Meaning

@@ -41,14 +41,14 @@ closed b = closed_to b b.outer
 abbrev at : Bool → List Tree → List Frame → Nodes
 at m ts o = record { top = record { is_map = m; children = ts }; outer = o }
 
-regroup : (ss : List Tree) (t : Tree) (ts : List Tree) → (ss ++ t ∷ []) ++ ts ≡ ss ++ t ∷ ts
+pub regroup : (ss : List Tree) (t : Tree) (ts : List Tree) → (ss ++ t ∷ []) ++ ts ≡ ss ++ t ∷ ts
 regroup ss t ts = rw append_assoc refl
 
 puts-at : (m : Bool) (o : List Frame) (ss ts : List Tree) → puts put ts (at m ss o) ≡ at m (ss ++ ts) o
 puts-at m o ss [] = ap (λ r. at m r o) (sym (append-nil ss))
 puts-at m o ss (t ∷ ts) = puts-at m o (ss ++ t ∷ []) ts ∙ ap (λ r. at m r o) (regroup ss t ts)
 
-turns-by_turns : (es : List (Tree × Tree)) → turns (by_turns es) ≡ es
+pub turns-by_turns : (es : List (Tree × Tree)) → turns (by_turns es) ≡ es
 turns-by_turns [] = refl
 turns-by_turns (e ∷ es) = ap (λ r. e ∷ r) (turns-by_turns es)
 

@@ -2,7 +2,7 @@ ghost use Rattle.std.specs.Prelude.{◌≡◌, ◌<◌, ◌≤◌, ◌+◌, [], 
 ghost use Rattle.std.specs.Str.{IsUtf8};
 ghost use Rattle.sw_tree.specs.Steps.{Each};
 ghost use Rattle.sw_tree.specs.Tree as tree;
-ghost use Rattle.sw_tree.specs.Builder.{added, longer, opened, closed, finished, CanClose};
+ghost use Rattle.sw_tree.specs.Builder.{added, longer, opened, closed, finished, CanClose, takes, can_close};
 
 use crate::cell::{Cell, Extent, Span};
 use crate::doc::Doc;
@@ -209,6 +209,27 @@ impl<'de> DocBuilder<'de> {
         }
         self.kids += 1;
         Ok(())
+    }
+
+    /// Whether a tree of so many levels can be added: there is no root, and no more than 128 levels are open with its own.
+    pub(crate) fn takes(&self, levels: u8) -> bool
+        ensures { result ≡ takes self.now levels }
+    {
+        let open = self.opens.len();
+        if open == 0 && self.kids > 0 {
+            return false;
+        }
+        open + levels as usize <= 128
+    }
+
+    /// Whether something is open, and the innermost has, if it is a map, as many keys as values.
+    pub(crate) fn can_close(&self) -> bool
+        ensures { result ≡ can_close self.now }
+    {
+        match self.opens.as_slice().last() {
+            Some(open) => !open.is_map || self.kids % 2 == 0,
+            None => false,
+        }
     }
 
     /// Opens a list or a map.

@@ -1,6 +1,7 @@
 use crate::cell::Cell;
 use crate::from_node::document_of;
 use crate::held::Held;
+use crate::kept::Kept;
 use crate::node::Node;
 use crate::sheet::Sheet;
 use crate::view::View;
@@ -77,6 +78,14 @@ impl<'de> Doc<'de> {
         let Doc { input, held } = self;
         let held = held.shared(alloc)?;
         Ok(Doc { input, held })
+    }
+
+    /// The document, with a copy of its input.
+    pub(crate) fn into_kept(self, alloc: Global) -> Result<Kept, AllocError>
+        ensures { IfOk result (λ k. k ≡ self.entry.tree) }
+    {
+        let Doc { input, held } = self;
+        Kept::of_held(alloc, input, held)
     }
 
     /// The root, whose place is 0, and whose nodes below count on from there.

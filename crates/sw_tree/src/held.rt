@@ -1,7 +1,6 @@
-ghost use Rattle.std.specs.Prelude.{◌<◌, ◌≡◌, IfOk, length, get_or};
+ghost use Rattle.std.specs.Prelude.{◌≡◌, IfOk};
 ghost use Rattle.sw_tree.specs.Held.{held_sheet};
 
-use crate::cell::Cell;
 use crate::sheet::Sheet;
 use std::alloc::{AllocError, Global};
 use std::sync::Arc;
@@ -15,8 +14,6 @@ pub enum Held {
 }
 
 impl Held {
-    ghost use Rattle.sw_tree.specs.Short.{IsLength};
-
     /// The sheet.
     #[inline]
     pub(crate) fn sheet(&self) -> &Sheet
@@ -26,17 +23,6 @@ impl Held {
             Held::Own(sheet) => sheet,
             Held::Shared(sheet) => sheet,
         }
-    }
-
-    /// The cell of that number, and that nothing here is longer than memory.
-    #[inline]
-    pub(crate) fn cell(&self, at: u32) -> Cell
-        requires { at < length (held_sheet self.now).cells.items }
-        ensures value { result ≡ get_or (held_sheet self.now).cells.items at Cell.Null }
-        ensures side { IsLength (length (held_sheet self.now).side.items) }
-        ensures cells { IsLength (length (held_sheet self.now).cells.items) }
-    {
-        self.sheet().cell(at)
     }
 
     /// The same sheet, to be shared by each copy. The one error is want of memory.

@@ -47,6 +47,17 @@ impl Kept {
         })
     }
 
+    /// The document of that sheet, with a copy of that input.
+    pub(crate) fn of_held(alloc: Global, input: &[u8], held: Held) -> Result<Kept, AllocError>
+        requires { Formed (sheet_store input.now (held_sheet held)) (held_sheet held).cells.items }
+        ensures { IfOk result (λ k. k ≡ sheet_tree input.now (held_sheet held)) }
+    {
+        Ok(Kept {
+            input: Vec::from_slice(alloc, input)?,
+            held,
+        })
+    }
+
     /// The document of a node's cells alone, those from `at` to `end`, copied with the ranges
     /// that they point into.
     pub(crate) fn part(

@@ -9,6 +9,7 @@ mod cell;
 mod containers;
 mod content;
 pub mod doc;
+mod doc_writer;
 pub mod fail;
 pub mod foreign;
 mod from_node;

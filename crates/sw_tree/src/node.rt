@@ -9,6 +9,7 @@ ghost use Rattle.sw_tree.specs.Foreign as foreign;
 use crate::content::Content;
 use crate::fail::TooDeep;
 use crate::foreign::foreign_in;
+use crate::from_node::document_of;
 use crate::kept::Kept;
 use crate::levels::levels_of;
 use crate::mode::Kind;
@@ -208,8 +209,8 @@ impl Node {
         })
     }
 
-    /// An equal tree. The one error is want of memory.
-    #[cycle(copy)]
+    /// An equal tree: a list or map as a document, which is made of one made by hand, and which copies of it share.
+    /// The one error is want of memory.
     pub fn copy(&self, alloc: Global) -> Result<Node, AllocError>
         ensures { IfOk result (λ n. n ≡ self.now) }
     {
@@ -219,16 +220,9 @@ impl Node {
             Shape::Int(value) => Ok(Node::int(*value)),
             Shape::Text(value) => Ok(Node::text(String::from_str(alloc, value.as_str())?)),
             Shape::Bytes(value) => Ok(Node::bytes(Vec::from_slice(alloc, value.as_slice())?)),
-            Shape::List(items) => Ok(Node {
-                shape: Shape::List(copies(alloc, items.as_slice())?),
-                levels: self.levels,
-                plain: self.plain,
-            }),
-            Shape::Map(pairs) => Ok(Node {
-                shape: Shape::Map(entry_copies(alloc, pairs.as_slice())?),
-                levels: self.levels,
-                plain: self.plain,
-            }),
+            Shape::List(_) | Shape::Map(_) => {
+                Node::kept(alloc, document_of(alloc, self)?.into_kept(alloc)?)
+            }
             Shape::Kept(kept) => Ok(Node {
                 shape: Shape::Kept(kept.clone()?),
                 levels: self.levels,
@@ -396,28 +390,4 @@ fn is_text(node: &Node) -> bool
     ensures { result ≡ foreign.is_text node.now }
 {
     node.kind() == Kind::Text
-}
-
-/// Equal items.
-#[cycle(copy)]
-fn copies(alloc: Global, items: &[Node]) -> Result<Vec<Node>, AllocError>
-    ensures { IfOk result (λ v. v.items ≡ items.now) }
-{
-    let mut copied = Vec::with_capacity(alloc, items.len())?;
-    for item in items {
-        copied.push(item.copy(alloc)?)?;
-    }
-    Ok(copied)
-}
-
-/// Equal entries.
-#[cycle(copy)]
-fn entry_copies(alloc: Global, pairs: &[(Node, Node)]) -> Result<Vec<(Node, Node)>, AllocError>
-    ensures { IfOk result (λ v. v.items ≡ pairs.now) }
-{
-    let mut copied = Vec::with_capacity(alloc, pairs.len())?;
-    for (key, value) in pairs {
-        copied.push((key.copy(alloc)?, value.copy(alloc)?))?;
-    }
-    Ok(copied)
 }

@@ -1,11 +1,12 @@
 ghost use Rattle.std.specs.Prelude.{◌≡◌, ◌↔◌, IsTrue};
 
 use crate::content::Content;
+use crate::doc_writer::DocWriter;
 use crate::{
-    DeError, DeFail, DeKind, Doc, DocBuilder, Keyed, Kind, Meant, Mode, Node, NodeBuilder, Place,
-    PrintError, Refusal, SerError, SerFail, Skipped, Step, View, Whole, WireKind, foreign_in,
-    image, key_number, node_at, path_of, short_value, whole_of_spelling, whole_text, write_node,
-    write_view,
+    Builds, DeError, DeFail, DeKind, Doc, DocBuilder, Keyed, Kind, Meant, Mode, Node, NodeBuilder,
+    Place, PrintError, Refusal, SerError, SerFail, Skipped, Step, View, Whole, WireKind,
+    foreign_in, image, key_number, node_at, path_of, short_value, whole_of_spelling, whole_text,
+    write_node, write_view,
 };
 use std::alloc::{AllocError, Global};
 use std::borrow::{Cow, CowSlice, CowStr};
@@ -308,6 +309,53 @@ fn stays(alloc: Global) -> Result<bool, AllocError> {
 #[test]
 fn copies_are_equal(rt: HostRuntime) {
     assert!(rt; matches!(stays(rt.alloc()), Ok(true)));
+}
+
+/// Writes lists in a list, so many levels deep.
+fn write_nested(out: &mut DocWriter<'_>, levels: u8) -> Result<(), SerFail> {
+    for _ in 0..levels {
+        out.open_list(1)?;
+    }
+    for _ in 0..levels {
+        out.close()?;
+    }
+    Ok(())
+}
+
+#[test]
+fn a_written_document_has_at_most_128_levels(rt: HostRuntime) {
+    let mut out = DocWriter::new(rt.alloc());
+    assert!(rt; write_nested(&mut out, 128).is_ok());
+    let mut deep = DocWriter::new(rt.alloc());
+    let refused = write_nested(&mut deep, 129);
+    assert!(rt; matches!(refused, Err(SerFail::Unwritable(SerError::TooDeep))));
+}
+
+/// A map whose key is the small list made by hand, and whose value is that list kept as a document, as a copy.
+fn copied_map(alloc: Global) -> Result<Node, AllocError> {
+    let mut pairs = Vec::new(alloc);
+    let kept = small_list(alloc)?.copy(alloc)?;
+    pairs.push((small_list(alloc)?, kept))?;
+    match Node::map(pairs) {
+        Ok(map) => map.copy(alloc),
+        Err(_) => Ok(Node::null()),
+    }
+}
+
+fn is_map_of_small_lists(view: View<'_>) -> bool {
+    let Some(mut entries) = view.entries() else {
+        return false;
+    };
+    matches!(entries.next(), Some((key, value)) if is_small_list(key) && is_small_list(value))
+        && matches!(entries.next(), None)
+}
+
+#[test]
+fn a_copy_of_a_map_made_by_hand_is_a_document(rt: HostRuntime) -> Result<(), AllocError> {
+    let copied = copied_map(rt.alloc())?;
+    assert!(rt; copied.depth() == 2 && !copied.is_plain());
+    assert!(rt; matches!(copied.content(), Content::Document(view) if is_map_of_small_lists(view)));
+    Ok(())
 }
 
 /// The list in that document, written from a node made by hand, from one that is kept, and from what the view shows.

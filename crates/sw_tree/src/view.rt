@@ -1,13 +1,14 @@
 ghost use Rattle.std.specs.Prelude.{◌<◌, ◌≤◌, ◌≡◌, length, IfOk};
 ghost use Rattle.sw_tree.specs.Cells.{Formed, IsText, part};
 ghost use Rattle.sw_tree.specs.Formed.{Formed-prop};
-ghost use Rattle.sw_tree.specs.Held.{held_sheet};
+ghost use Rattle.sw_tree.specs.Held.{IsHeld, IsHeld-prop};
 
 use crate::cell::{Cell, Span};
 use crate::held::Held;
 use crate::kept::Kept;
 use crate::mode::Kind;
 use crate::node::Node;
+use crate::sheet::Sheet;
 use crate::to_node::leaf_of;
 use crate::whole::Whole;
 use std::alloc::{AllocError, Global};
@@ -20,15 +21,18 @@ use std::marker::Model;
 #[derive(Clone, Copy)]
 pub struct View<'a> {
     input: &'a [u8],
+    sheet: &'a Sheet,
+    /// What holds the sheet, for a copy of the root.
     held: &'a Held,
     fixed: usize,
     at: u32,
     counts: bool,
-    ghost inside: { at < length (held_sheet held.now).cells.items },
-    ghost formed: { Formed (record { input = input.now; side = (held_sheet held.now).side.items; wides = (held_sheet held.now).wides.items }) (held_sheet held.now).cells.items } by { Formed-prop (record { input = input.now; side = (held_sheet held.now).side.items; wides = (held_sheet held.now).wides.items }) (held_sheet held.now).cells.items },
+    ghost inside: { at < length sheet.now.cells.items },
+    ghost formed: { Formed (record { input = input.now; side = sheet.now.side.items; wides = sheet.now.wides.items }) sheet.now.cells.items } by { Formed-prop (record { input = input.now; side = sheet.now.side.items; wides = sheet.now.wides.items }) sheet.now.cells.items },
+    ghost shared: { IsHeld input.now sheet.now held.now } by { IsHeld-prop input.now sheet.now held.now },
 }
 
-const _: () = prove!(size_of::<View<'static>>() == 40);
+const _: () = prove!(size_of::<View<'static>>() == 48);
 
 impl<'a> View<'a> {
     ghost use Rattle.std.specs.Prelude.{◌+◌, List, ◌∷◌, drop, get_or, Some, true, false, option_map};
@@ -39,6 +43,7 @@ impl<'a> View<'a> {
     ghost use Rattle.sw_tree.specs.Cells.{IsFine, arity, below, tree_at, forest};
     ghost use Rattle.sw_tree.specs.Seen.{Seen, items_seen, entries_seen};
     ghost use Rattle.sw_tree.specs.Sheet.{sheet_store, sheet_tree};
+    ghost use Rattle.sw_tree.specs.Held.{held_sheet};
     ghost use Rattle.sw_tree.specs.View.{seen, tree_of, place_in, store_of};
 
     /// The root, which stands at 0 where it counts, and is fixed at that place otherwise.
@@ -54,6 +59,7 @@ impl<'a> View<'a> {
     {
         View {
             input,
+            sheet: held.sheet(),
             held,
             fixed,
             at: 0,
@@ -88,6 +94,7 @@ impl<'a> View<'a> {
         match self.cell() {
             Cell::List(extent) => Some(Items {
                 input: self.input,
+                sheet: self.sheet,
                 held: self.held,
                 fixed: self.fixed,
                 at: self.at + 1,
@@ -106,6 +113,7 @@ impl<'a> View<'a> {
         match self.cell() {
             Cell::Map(extent) => Some(Entries {
                 input: self.input,
+                sheet: self.sheet,
                 held: self.held,
                 fixed: self.fixed,
                 at: self.at + 1,
@@ -119,11 +127,11 @@ impl<'a> View<'a> {
     /// The number of the cell behind the node and all below it.
     #[inline]
     pub(crate) fn behind(self) -> u32
-        ensures next { forest (store_of self.entry) (drop self.entry.at (held_sheet self.entry.held.now).cells.items) ≡ tree_of self.entry ∷ forest (store_of self.entry) (drop result (held_sheet self.entry.held.now).cells.items) }
+        ensures next { forest (store_of self.entry) (drop self.entry.at self.entry.sheet.now.cells.items) ≡ tree_of self.entry ∷ forest (store_of self.entry) (drop result self.entry.sheet.now.cells.items) }
         ensures place { result ≡ self.entry.at + size (tree_of self.entry) }
-        ensures all { result ≡ self.entry.at + 1 + below (get_or (held_sheet self.entry.held.now).cells.items self.entry.at Cell.Null) }
+        ensures all { result ≡ self.entry.at + 1 + below (get_or self.entry.sheet.now.cells.items self.entry.at Cell.Null) }
     {
-        self.at + 1 + self.held.cell(self.at).below()
+        self.at + 1 + self.sheet.cell(self.at).below()
     }
 
     /// The place behind a counting node and all below it.
@@ -141,14 +149,14 @@ impl<'a> View<'a> {
         ensures shallow { depth (tree_of self.entry) ≤ 128 }
         ensures proper { IsProper (tree_of self.entry) }
         ensures short { IsShort (tree_of self.entry) }
-        ensures enough { arity result ≤ length (forest (store_of self.entry) (drop (self.entry.at + 1) (held_sheet self.entry.held.now).cells.items)) }
+        ensures enough { arity result ≤ length (forest (store_of self.entry) (drop (self.entry.at + 1) self.entry.sheet.now.cells.items)) }
         ensures fine { IsFine (store_of self.entry) result }
-        ensures tree { tree_of self.entry ≡ tree_at (store_of self.entry) result (forest (store_of self.entry) (drop (self.entry.at + 1) (held_sheet self.entry.held.now).cells.items)) }
+        ensures tree { tree_of self.entry ≡ tree_at (store_of self.entry) result (forest (store_of self.entry) (drop (self.entry.at + 1) self.entry.sheet.now.cells.items)) }
         ensures place { (seen self.entry).place ≡ place_in self.entry.counts self.entry.fixed self.entry.at }
         ensures counts { (seen self.entry).counts ≡ self.entry.counts }
     {
         let _input = self.input.len();
-        self.held.cell(self.at)
+        self.sheet.cell(self.at)
     }
 
     /// The node's kind.
@@ -184,24 +192,26 @@ impl<'a> View<'a> {
     }
 
     /// The number, where the node is one.
+    #[inline]
     pub fn as_int(self) -> Option<Whole>
         ensures { result ≡ int_at (tree_of self.entry) }
     {
         match self.cell() {
             Cell::Natural(halves) => Some(Whole::from_u128(u128::from(halves.number()))),
             Cell::Negative(halves) => Some(Whole::from_i128(-1 - i128::from(halves.number()))),
-            Cell::Wide(index) => Some(self.held.sheet().wides[index as usize]),
+            Cell::Wide(index) => Some(self.sheet.wides[index as usize]),
             _ => None,
         }
     }
 
     /// The text, where the node is one. It stands in the document and isn't copied.
+    #[inline]
     pub fn as_text(self) -> Option<&'a str>
         ensures { option_copied result ≡ text_at (tree_of self.entry) }
     {
         match self.cell() {
             Cell::Text(span) => Some(text_in(self.input, span)),
-            Cell::Copied(span) => Some(text_in(self.held.sheet().side.as_slice(), span)),
+            Cell::Copied(span) => Some(text_in(self.sheet.side.as_slice(), span)),
             _ => None,
         }
     }
@@ -213,7 +223,7 @@ impl<'a> View<'a> {
         match self.cell() {
             Cell::Bytes(span) => Some(&self.input[span.start as usize..span.end as usize]),
             Cell::CopiedBytes(span) => Some(
-                &self.held.sheet().side.as_slice()[span.start as usize..span.end as usize],
+                &self.sheet.side.as_slice()[span.start as usize..span.end as usize],
             ),
             _ => None,
         }
@@ -262,7 +272,7 @@ impl<'a> View<'a> {
         if self.at == 0 {
             Kept::root(alloc, self.input, self.held)
         } else {
-            Kept::part(alloc, self.input, self.held.sheet(), self.at, self.behind())
+            Kept::part(alloc, self.input, self.sheet, self.at, self.behind())
         }
     }
 }
@@ -279,6 +289,7 @@ fn text_in<'a>(source: &'a [u8], span: Span) -> &'a str
 #[derive(Drop)]
 pub struct Items<'a> {
     input: &'a [u8],
+    sheet: &'a Sheet,
     held: &'a Held,
     fixed: usize,
     at: u32,
@@ -292,17 +303,17 @@ impl<'a> Model for Items<'a> {
     ghost use Rattle.sw_tree.specs.Seen.{Seen, coded_seen, row};
     ghost use Rattle.sw_tree.specs.View.{place_in};
     ghost use Rattle.sw_tree.specs.Sheet.{sheet_store};
-    ghost use Rattle.sw_tree.specs.Held.{held_sheet};
 
     ghost Value = { List Seen };
 
     ghost coded = { coded_list coded_seen };
 
     ghost use Rattle.sw_tree.specs.Cells.{forest, Formed};
+    ghost use Rattle.sw_tree.specs.Held.{IsHeld};
 
-    ghost view = { λ a. row a.counts (place_in a.counts a.fixed a.at) (take a.left (forest (sheet_store a.input.now (held_sheet a.held.now)) (drop a.at (held_sheet a.held.now).cells.items))) };
+    ghost view = { λ a. row a.counts (place_in a.counts a.fixed a.at) (take a.left (forest (sheet_store a.input.now a.sheet.now) (drop a.at a.sheet.now.cells.items))) };
 
-    ghost invariant = { λ a. Formed (sheet_store a.input.now (held_sheet a.held.now)) (held_sheet a.held.now).cells.items × (a.left ≤ length (forest (sheet_store a.input.now (held_sheet a.held.now)) (drop a.at (held_sheet a.held.now).cells.items))) };
+    ghost invariant = { λ a. Formed (sheet_store a.input.now a.sheet.now) a.sheet.now.cells.items × (a.left ≤ length (forest (sheet_store a.input.now a.sheet.now) (drop a.at a.sheet.now.cells.items))) × IsHeld a.input.now a.sheet.now a.held.now };
 }
 
 impl<'a> Iterator for Items<'a> {
@@ -321,6 +332,7 @@ impl<'a> Iterator for Items<'a> {
         }
         let view = View {
             input: self.input,
+            sheet: self.sheet,
             held: self.held,
             fixed: self.fixed,
             at: self.at,
@@ -336,6 +348,7 @@ impl<'a> Iterator for Items<'a> {
 #[derive(Drop)]
 pub struct Entries<'a> {
     input: &'a [u8],
+    sheet: &'a Sheet,
     held: &'a Held,
     fixed: usize,
     at: u32,
@@ -350,17 +363,17 @@ impl<'a> Model for Entries<'a> {
     ghost use Rattle.sw_tree.specs.Seen.{Seen, coded_seen, entry_row};
     ghost use Rattle.sw_tree.specs.View.{place_in};
     ghost use Rattle.sw_tree.specs.Sheet.{sheet_store};
-    ghost use Rattle.sw_tree.specs.Held.{held_sheet};
 
     ghost Value = { List (Seen × Seen) };
 
     ghost coded = { coded_list (coded× coded_seen coded_seen) };
 
     ghost use Rattle.sw_tree.specs.Cells.{forest, Formed};
+    ghost use Rattle.sw_tree.specs.Held.{IsHeld};
 
-    ghost view = { λ a. entry_row a.counts (place_in a.counts a.fixed a.at) (turns (take (a.left + a.left) (forest (sheet_store a.input.now (held_sheet a.held.now)) (drop a.at (held_sheet a.held.now).cells.items)))) };
+    ghost view = { λ a. entry_row a.counts (place_in a.counts a.fixed a.at) (turns (take (a.left + a.left) (forest (sheet_store a.input.now a.sheet.now) (drop a.at a.sheet.now.cells.items)))) };
 
-    ghost invariant = { λ a. Formed (sheet_store a.input.now (held_sheet a.held.now)) (held_sheet a.held.now).cells.items × (a.left + a.left ≤ length (forest (sheet_store a.input.now (held_sheet a.held.now)) (drop a.at (held_sheet a.held.now).cells.items))) };
+    ghost invariant = { λ a. Formed (sheet_store a.input.now a.sheet.now) a.sheet.now.cells.items × (a.left + a.left ≤ length (forest (sheet_store a.input.now a.sheet.now) (drop a.at a.sheet.now.cells.items))) × IsHeld a.input.now a.sheet.now a.held.now };
 }
 
 impl<'a> Iterator for Entries<'a> {
@@ -379,6 +392,7 @@ impl<'a> Iterator for Entries<'a> {
         }
         let key = View {
             input: self.input,
+            sheet: self.sheet,
             held: self.held,
             fixed: self.fixed,
             at: self.at,
@@ -386,6 +400,7 @@ impl<'a> Iterator for Entries<'a> {
         };
         let value = View {
             input: self.input,
+            sheet: self.sheet,
             held: self.held,
             fixed: self.fixed,
             at: key.behind(),

@@ -68,7 +68,7 @@ pub fn write_node<B: Builds>(out: &mut B, node: &Node) -> Result<(), SerFail>
 
 /// Puts the node's tree in, node by node.
 #[cycle(write_parts)]
-fn write_parts<B: Builds>(out: &mut B, node: &Node) -> Result<(), SerFail>
+pub(crate) fn write_parts<B: Builds>(out: &mut B, node: &Node) -> Result<(), SerFail>
     ensures { IsPut B.put result (Ok node.now) out.old out.new }
 {
     match node.content() {
