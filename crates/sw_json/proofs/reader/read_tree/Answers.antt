@@ -135,14 +135,14 @@ returns-clause-found c =
     let g = stands.good c.args.bytes.now c.tokens.place (reverse c.tokens.levels.items) c.tokens.fault c.tokens.builder c.tokens.rest.now c.tokens.invariant
     (stands.nothing_left c.tokens.rest.now _ c.skip_blanks-ahead.ensures c.if-is_empty.ensures)
     (sym c.is_end.ensures ∙ c.if-not-is_end.false) c.in_default-fault.is in
-    g.1 ∙ ap (λ (t : Tree). Ok t) (sym (the_some (c.finish.ensures.tree ∙ g.2)))
+    rw c.in-Ok-shared.ensures (g.1 ∙ ap (λ (t : Tree). Ok t) (sym (the_some (c.finish.ensures.tree ∙ g.2))))
 
 pub returns-clause-tree : goal.returns-clause-tree
-returns-clause-tree c = tree_spelled c.args.bytes.now c.finish.result.tree (returns-clause-found c)
+returns-clause-tree c = tree_spelled c.args.bytes.now c.in-Ok-shared.document.tree (returns-clause-found c)
 
 pub returns-clause-side : goal.returns-clause-side
 returns-clause-side c =
     let g = stands.good c.args.bytes.now c.tokens.place (reverse c.tokens.levels.items) c.tokens.fault c.tokens.builder c.tokens.rest.now c.tokens.invariant
     (stands.nothing_left c.tokens.rest.now _ c.skip_blanks-ahead.ensures c.if-is_empty.ensures)
     (sym c.is_end.ensures ∙ c.if-not-is_end.false) c.in_default-fault.is in
-    rw c.finish.ensures.side g.3
+    rw (c.in-Ok-shared.ensures, c.finish.ensures.side) g.3
