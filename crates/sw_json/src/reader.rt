@@ -43,7 +43,7 @@ pub fn read_tree<'de>(alloc: Global, bytes: &'de [u8]) -> Result<Doc<'de>, WireE
             break;
         }
         let at = bytes.len() - ahead.len();
-        let Ok(taken) = take(&mut builder, &levels, place, fault, at, ahead) else {
+        let Ok(taken) = take(&mut builder, &mut levels, place, fault, at, ahead) else {
             return Err(WireError::Memory);
         };
         if let Some((next, behind)) = taken {
