@@ -145,6 +145,14 @@ module _ (at : ℕ) (place : Place) (opens : List Open) (o : Open) (rest : List 
   pub opening_can : false ≡ is_some fault → CanBuild (length opens) (opening at o) b
   opening_can h = can (opening at o) rest next (o ∷ opens) (opening_found at rest o) (leads opens at) (no_fault fault h)
 
+  pub opening_unbuilt : (later : List Open) → true ≡ is_some fault → later ≡ o ∷ opens → Took at place opens later (opening_byte o ∷ rest) fault b b next rest
+  opening_unbuilt later h l = record {
+    token = opening at o;
+    found = opening_found at rest o;
+    leads = leads opens at ∙ ap (λ (x : List Open). Some (next, x)) (sym l);
+    builds = record { fault = still_faulty fault (fault_of (length opens) (opening at o)) h; built = λ e. absurd (some_fault fault h e) };
+  }
+
   pub opening_took : (later : List Open) (c : Built) → length opens < 128 → later ≡ o ∷ opens → c ≡ effect (opening at o) b → Took at place opens later (opening_byte o ∷ rest) fault b c next rest
   opening_took later c few l e = record {
     token = opening at o;
@@ -175,6 +183,14 @@ module _ (at : ℕ) (place : Place) (opens : List Open) (o : Open) (rest : List 
     (can : CanTake at place opens (closing_byte o ∷ rest) fault b) (leads : place_step place opens (closing o) ≡ Some (next, outer opens)) where
   pub closing_can : false ≡ is_some fault → CanClose b
   closing_can h = closing_fits o b (can (closing o) rest next (outer opens) (closing_found at rest o) leads (no_fault fault h)).fits
+
+  pub closing_unbuilt : (later : List Open) → true ≡ is_some fault → later ≡ outer opens → Took at place opens later (closing_byte o ∷ rest) fault b b next rest
+  closing_unbuilt later h l = record {
+    token = closing o;
+    found = closing_found at rest o;
+    leads = leads ∙ ap (λ (x : List Open). Some (next, x)) (sym l);
+    builds = record { fault = still_faulty fault (fault_of (length opens) (closing o)) h; built = λ e. absurd (some_fault fault h e) };
+  }
 
   pub closing_took : (later : List Open) (c : Built) → later ≡ outer opens → c ≡ closed b → Took at place opens later (closing_byte o ∷ rest) fault b c next rest
   closing_took later c l e = record {

@@ -169,7 +169,7 @@ pub(crate) fn behind_number(place: Place) -> Option<Place>
     }
 }
 
-/// Where what opens that leads to; `None` where it can't come.
+/// Where the bracket or brace that opens leads to; `None` where it can't come.
 #[inline(always)]
 pub(crate) fn behind_opening(place: Place, kind: Open) -> Option<Place>
     ensures { IfSome result (λ p. (os : List Open) (at : ℕ) → place_step place os (opening at kind) ≡ Some (p, kind ∷ os)) }
@@ -188,7 +188,7 @@ pub(crate) fn behind_opening(place: Place, kind: Open) -> Option<Place>
     }
 }
 
-/// Where what closes that leads to; `None` where it can't come.
+/// Where the bracket or brace that closes leads to; `None` where it can't come.
 #[inline(always)]
 pub(crate) fn behind_closing(levels: &Vec<Open>, place: Place, kind: Open) -> Option<Place>
     ensures { IfSome result (λ p. place_step place (reverse levels.now.items) (closing kind) ≡ Some (p, outer (reverse levels.now.items))) }
@@ -219,7 +219,16 @@ pub(crate) fn behind_closing(levels: &Vec<Open>, place: Place, kind: Open) -> Op
     }
 }
 
-/// Leaves the innermost.
+/// Enters a list or map, which is then the innermost.
+#[inline(always)]
+pub(crate) fn enter(levels: &mut Vec<Open>, kind: Open) -> Result<(), AllocError>
+    ensures { IfOk result (λ _. reverse levels.new.items ≡ kind ∷ reverse levels.old.items) }
+{
+    levels.push(kind)?;
+    Ok(())
+}
+
+/// Leaves the innermost list or map.
 #[inline(always)]
 pub(crate) fn leave(levels: &mut Vec<Open>)
     ensures { reverse levels.new.items ≡ outer (reverse levels.old.items) }

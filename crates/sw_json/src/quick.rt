@@ -7,7 +7,7 @@ ghost use Rattle.sw_json.specs.Quick.{CanTake, Takes, opening_byte, closing_byte
 
 use crate::place::{
     Open, Place, behind_closing, behind_colon, behind_comma, behind_number, behind_opening,
-    behind_text, leave,
+    behind_text, enter, leave,
 };
 use crate::plain::split_ascii_text;
 use crate::short::short_number;
@@ -68,22 +68,24 @@ fn take_number<'a>(
     Ok(Some((next, behind)))
 }
 
-/// Opens that, in the stack and in the document.
+/// Opens a list or map, in the stack and in the document. After want of memory it may be in
+/// the stack alone.
 #[inline(always)]
-fn enter(builder: &mut DocBuilder<'_>, levels: &mut Vec<Open>, kind: Open) -> Result<(), AllocError>
+fn begin(builder: &mut DocBuilder<'_>, levels: &mut Vec<Open>, kind: Open) -> Result<(), AllocError>
     requires no_root { builder.old.root ≡ None }
     requires room { length builder.old.frames < 128 }
     ensures opens { IfOk result (λ _. reverse levels.new.items ≡ kind ∷ reverse levels.old.items) }
     ensures built { (at : ℕ) → IfOk result (λ _. builder.new ≡ effect (opening at kind) builder.old) }
 {
-    levels.push(kind)?;
+    enter(levels, kind)?;
     match kind {
         Open::List => builder.open_list(),
         Open::Map => builder.open_map(),
     }
 }
 
-/// Opens that behind its bracket, which is at that offset, where it is no level too many.
+/// Opens a list or map behind what opens it, which is at that offset. `None` where it can't
+/// come, and where it would be the first fault, in 128 others: then none is opened.
 #[inline(always)]
 fn take_opening<'a>(
     builder: &mut DocBuilder<'_>,
@@ -101,16 +103,18 @@ fn take_opening<'a>(
         return Ok(None);
     };
     if fault.is_some() {
-        return Ok(None);
+        enter(levels, kind)?;
+        return Ok(Some((next, bytes)));
     }
     if levels.len() >= 128 {
         return Ok(None);
     }
-    enter(builder, levels, kind)?;
+    begin(builder, levels, kind)?;
     Ok(Some((next, bytes)))
 }
 
-/// Closes that behind its bracket, which is at that offset.
+/// Closes a list or map behind what closes it, which is at that offset. `None` where it can't
+/// come: then none is closed.
 #[inline(always)]
 fn take_closing<'a>(
     builder: &mut DocBuilder<'_>,
@@ -127,18 +131,18 @@ fn take_closing<'a>(
     let Some(next) = behind_closing(levels, place, kind) else {
         return Ok(None);
     };
-    if fault.is_some() {
-        return Ok(None);
-    }
     leave(levels);
+    if fault.is_some() {
+        return Ok(Some((next, bytes)));
+    }
     builder.close()?;
     Ok(Some((next, bytes)))
 }
 
 /// Reads a token in front that is a bracket, a brace, a comma, a colon, a text of ASCII
 /// without an escape, or a short int, adds it as long as there is no fault, and answers where
-/// it leads to and what is behind it. `None` for any other, and where it can't come or is a
-/// fault: then nothing is added, and the same are open.
+/// it leads to and what is behind it. `None` for any other, where it can't come, and where it
+/// would be the first fault: then nothing is added, and the same are open.
 #[inline(always)]
 pub(crate) fn take<'a>(
     builder: &mut DocBuilder<'_>,
