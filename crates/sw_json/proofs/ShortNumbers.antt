@@ -1,14 +1,13 @@
 -- A short whole number in front of bytes is the token there, and has its digits' value.
-use Rattle.std.proofs.Common.{◌≡◌, ℕ, ◌+◌, ◌*◌, ◌-◌, ◌^◌, ◌<◌, ◌≤◌, ℤ, pos, Bool, true, false, cond, eqb, leb, ltb, List, [], ◌∷◌, ◌++◌, append-nil, Option, Some, None, refl, sym, ap, ◌∙◌, inl, inr, arith}
+use Rattle.std.proofs.Common.{◌≡◌, ℕ, ◌+◌, ◌*◌, ◌-◌, ◌^◌, ◌<◌, ◌≤◌, ℤ, pos, Bool, true, false, cond, eqb, leb, ltb, List, [], ◌∷◌, ◌++◌, append-nil, Some, None, refl, sym, ap, ◌∙◌, inl, inr, arith}
 use Rattle.std.proofs.lemmas.Bool.Decides.{nat_tests}
 use Rattle.std.proofs.lemmas.Bool.{lt-ltb, le-leb}
 use Rattle.std.specs.Prelude.{neg_ℤ, ◌&&◌}
 use Rattle.std.specs.List.{list_all}
-use Rattle.sw_tree.specs.Number.{value_from, value_of, whole_of, key_number}
+use Rattle.sw_tree.specs.Number.{value_from, value_of, whole_of}
 use Rattle.sw_json.specs.Token.{Token}
-use Rattle.sw_json.specs.Bytes.{is_digit, is_leading, is_number_byte, front, behind, Stops}
+use Rattle.sw_json.specs.Bytes.{is_digit, is_leading, front, behind}
 use Rattle.sw_json.specs.Grammar.{IsNumber}
-use Rattle.sw_json.specs.Lexing.{lexeme}
 use Rattle.sw_json.specs.Short.{IsShortInt, IsShort}
 use Rattle.sw_json.specs.Laws.Fronts.{split, front_passes, and_right}
 use Rattle.sw_json.specs.Laws.Numbers.{leading_isnt_minus}

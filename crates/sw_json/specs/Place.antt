@@ -1,5 +1,5 @@
 -- What the code keeps of the machine's state: the place, and what is open, the innermost first.
-use Rattle.std.specs.Prelude.{◌≡◌, List, [], ◌∷◌, Option, Some, None, Bool, true, false}
+use Rattle.std.specs.Prelude.{◌≡◌, ℕ, List, [], ◌∷◌, Option, Some, None, Bool, true, false}
 use Rattle.sw_json.specs.Token.{Token}
 use Rattle.sw_json.specs.declared.place.Place.{Place}
 use Rattle.sw_json.specs.declared.place.Place.TheVariants.{Value, FreshList, FreshMap, Name, Colon, After}
@@ -42,6 +42,16 @@ place_after OfList os Token.comma = Some (Value, OfList ∷ os)
 place_after OfMap os Token.close_map = Some (After, os)
 place_after OfMap os Token.comma = Some (Name, OfMap ∷ os)
 place_after o os t = None
+
+-- the token that opens it
+abbrev pub opening : ℕ → Open → Token
+opening at OfList = Token.open_list at
+opening at OfMap = Token.open_map at
+
+-- the token that closes it
+abbrev pub closing : Open → Token
+closing OfList = Token.close_list
+closing OfMap = Token.close_map
 
 -- where a token leads to, and what is open then
 abbrev pub place_step : Place → List Open → Token → Option (Place × List Open)

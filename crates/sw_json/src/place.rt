@@ -1,9 +1,9 @@
 //! What may come next.
 
-ghost use Rattle.std.specs.Prelude.{◌≡◌, ℕ, List, IfOk, IfSome, Some, reverse};
+ghost use Rattle.std.specs.Prelude.{◌≡◌, ◌∷◌, ℕ, List, IfOk, IfSome, Some, reverse};
 ghost use Rattle.sw_json.specs.Token.{Quote, Token};
 ghost use Rattle.sw_json.specs.Lexeme.{token_of};
-ghost use Rattle.sw_json.specs.Place.{place_step, place_value, place_end, Leads};
+ghost use Rattle.sw_json.specs.Place.{place_step, place_value, place_end, outer, opening, closing, Leads};
 
 use crate::lexer::Lexeme;
 use std::alloc::AllocError;
@@ -167,6 +167,73 @@ pub(crate) fn behind_number(place: Place) -> Option<Place>
         Place::FreshList => Some(Place::After),
         _ => None,
     }
+}
+
+/// Where the bracket or brace that opens leads to; `None` where it can't come.
+#[inline(always)]
+pub(crate) fn behind_opening(place: Place, kind: Open) -> Option<Place>
+    ensures { IfSome result (λ p. (os : List Open) (at : ℕ) → place_step place os (opening at kind) ≡ Some (p, kind ∷ os)) }
+{
+    match kind {
+        Open::List => match place {
+            Place::Value => Some(Place::FreshList),
+            Place::FreshList => Some(Place::FreshList),
+            _ => None,
+        },
+        Open::Map => match place {
+            Place::Value => Some(Place::FreshMap),
+            Place::FreshList => Some(Place::FreshMap),
+            _ => None,
+        },
+    }
+}
+
+/// Where the bracket or brace that closes leads to; `None` where it can't come.
+#[inline(always)]
+pub(crate) fn behind_closing(levels: &Vec<Open>, place: Place, kind: Open) -> Option<Place>
+    ensures { IfSome result (λ p. place_step place (reverse levels.now.items) (closing kind) ≡ Some (p, outer (reverse levels.now.items))) }
+{
+    match place {
+        Place::FreshList => match kind {
+            Open::List => Some(Place::After),
+            Open::Map => None,
+        },
+        Place::FreshMap => match kind {
+            Open::List => None,
+            Open::Map => Some(Place::After),
+        },
+        Place::After => {
+            let innermost = *levels.last()?;
+            match innermost {
+                Open::List => match kind {
+                    Open::List => Some(Place::After),
+                    Open::Map => None,
+                },
+                Open::Map => match kind {
+                    Open::List => None,
+                    Open::Map => Some(Place::After),
+                },
+            }
+        }
+        _ => None,
+    }
+}
+
+/// Enters a list or map, which is then the innermost.
+#[inline(always)]
+pub(crate) fn enter(levels: &mut Vec<Open>, kind: Open) -> Result<(), AllocError>
+    ensures { IfOk result (λ _. reverse levels.new.items ≡ kind ∷ reverse levels.old.items) }
+{
+    levels.push(kind)?;
+    Ok(())
+}
+
+/// Leaves the innermost list or map.
+#[inline(always)]
+pub(crate) fn leave(levels: &mut Vec<Open>)
+    ensures { reverse levels.new.items ≡ outer (reverse levels.old.items) }
+{
+    let _ = levels.pop();
 }
 
 /// Whether the text may end there.

@@ -43,7 +43,7 @@ pub fn read_tree<'de>(alloc: Global, bytes: &'de [u8]) -> Result<Doc<'de>, WireE
             break;
         }
         let at = bytes.len() - ahead.len();
-        let Ok(taken) = take(&mut builder, &levels, place, fault, at, ahead) else {
+        let Ok(taken) = take(&mut builder, &mut levels, place, fault, at, ahead) else {
             return Err(WireError::Memory);
         };
         if let Some((next, behind)) = taken {
@@ -129,7 +129,7 @@ mod tests {
 
     #[test]
     fn only_what_the_grammar_spells_is_read(rt: HostRuntime) -> Result<(), Fail> {
-        let cases: [(&[u8], Outcome); 61] = [
+        let cases: [(&[u8], Outcome); 70] = [
             (b"[\"1\", \"20\"]", ("read", 0)),
             (b" [ ] ", ("read", 0)),
             (b"\t[1,\r\n\"a\" ,[ ], -20]", ("read", 0)),
@@ -156,6 +156,7 @@ mod tests {
             (b"1.5e-10", ("not whole", 0)),
             (b"[0, 0E+0]", ("not whole", 4)),
             (b"{\"a\":1.0,\"b\":-0}", ("not whole", 5)),
+            (b"[1.0,[2],{\"a\":[]}]", ("not whole", 1)),
             (b"[1.0", SYNTAX),
             (b"[1.0, {]", SYNTAX),
             (b"[\"1\"", SYNTAX),
@@ -169,6 +170,14 @@ mod tests {
             (b"[1 2]", SYNTAX),
             (b"[1}", SYNTAX),
             (b"1]", SYNTAX),
+            (b"]", SYNTAX),
+            (b"[}", SYNTAX),
+            (b"[1[2]]", SYNTAX),
+            (b"{]", SYNTAX),
+            (b"{{}}", SYNTAX),
+            (b"{[]:1}", SYNTAX),
+            (b"{\"a\"[1]}", SYNTAX),
+            (b"{\"a\":1,{}}", SYNTAX),
             (b"{\"a\"}", SYNTAX),
             (b"{1:2}", SYNTAX),
             (b"{\"a\":1,}", SYNTAX),
@@ -216,7 +225,8 @@ mod tests {
         let lists: Brackets<'_> = (b"[", b"", b"]");
         let maps: Brackets<'_> = (b"{\"a\":", b"0", b"}");
         let both: Brackets<'_> = (b"[{\"a\":", b"0", b"}]");
-        let cases: [(Brackets<'_>, usize, usize, Outcome); 9] = [
+        let spaced: Brackets<'_> = (b" [", b"", b" ]");
+        let cases: [(Brackets<'_>, usize, usize, Outcome); 11] = [
             (lists, 128, 128, ("read", 0)),
             (lists, 128, 127, SYNTAX),
             (lists, 129, 129, ("too deep", 128)),
@@ -224,6 +234,8 @@ mod tests {
             (lists, 1_000_000, 0, SYNTAX),
             (maps, 128, 128, ("read", 0)),
             (maps, 129, 129, ("too deep", 640)),
+            (spaced, 128, 128, ("read", 0)),
+            (spaced, 129, 129, ("too deep", 257)),
             (both, 64, 64, ("read", 0)),
             (both, 65, 65, ("too deep", 384)),
         ];

@@ -1,12 +1,23 @@
-use Rattle.std.proofs.Common.{ℕ, List, length, ap, subst}
+use Rattle.std.proofs.Common.{length}
 use Rattle.std.specs.Prelude.{reverse}
 use Rattle.sw_json.specs.Token.{Token}
-use Rattle.sw_json.specs.Quick.{CanTake, Took}
-use Rattle.sw_json.proofs.Taking.{comma_found, colon_found, comma_built, colon_built, quoted_can, quoted_takes}
+use Rattle.sw_json.proofs.Taking.{comma_found, colon_found, comma_built, colon_built, first_can}
 use Rattle.sw_json.proofs.quick.take.Goals as goal
 
 pub take_text-requires : goal.take_text-requires
-take_text-requires c = record { can = quoted_can c.args.at c.args.place (reverse c.args.levels.now.items) c.args.bytes.now c.in-Some.rest.now c.in-Some.first.now c.args.fault c.args.builder.now c.in-Some.ensures.cases.0 c.in-34.is c.requires.can }
+take_text-requires c = record { can = first_can c.args.at c.args.place (reverse c.args.levels.now.items) c.args.bytes.now c.in-Some.rest.now c.in-Some.first.now 34 c.args.fault c.args.builder.now c.in-Some.ensures.cases.0 c.in-34.is c.requires.can }
+
+pub take_opening-requires : goal.take_opening-requires
+take_opening-requires c = record { can = first_can c.args.at c.args.place (reverse c.args.levels.now.items) c.args.bytes.now c.in-Some.rest.now c.in-Some.first.now 91 c.args.fault c.args.builder.now c.in-Some.ensures.cases.0 c.in-91.is c.requires.can }
+
+pub take_closing-requires : goal.take_closing-requires
+take_closing-requires c = record { can = first_can c.args.at c.args.place (reverse c.args.levels.now.items) c.args.bytes.now c.in-Some.rest.now c.in-Some.first.now 93 c.args.fault c.args.builder.now c.in-Some.ensures.cases.0 c.in-93.is c.requires.can }
+
+pub take_opening-requires-in-123 : goal.take_opening-requires-in-123
+take_opening-requires-in-123 c = record { can = first_can c.args.at c.args.place (reverse c.args.levels.now.items) c.args.bytes.now c.in-Some.rest.now c.in-Some.first.now 123 c.args.fault c.args.builder.now c.in-Some.ensures.cases.0 c.in-123.is c.requires.can }
+
+pub take_closing-requires-in-125 : goal.take_closing-requires-in-125
+take_closing-requires-in-125 c = record { can = first_can c.args.at c.args.place (reverse c.args.levels.now.items) c.args.bytes.now c.in-Some.rest.now c.in-Some.first.now 125 c.args.fault c.args.builder.now c.in-Some.ensures.cases.0 c.in-125.is c.requires.can }
 
 pub returns-in-Some-behind_comma : goal.returns-in-Some-behind_comma
 returns-in-Some-behind_comma c = record {

@@ -23,8 +23,9 @@ tokens-init c = rw (c.new-levels.ensures.items, c.reserve.ensures, c.new-builder
 
 pub returns-in_default-token-clause-found : goal.returns-in_default-token-clause-found
 returns-in_default-token-clause-found c =
+    let was = still_stands c.args.bytes.now c.tokens.place (reverse c.tokens.levels.items) c.tokens.fault c.tokens.builder c.tokens.rest.now c.tokens.invariant _ c.skip_blanks-ahead.result.now (reverse c.take.new.levels.items) c.take.new.builder c.in-Ok.taken c.in-Ok.ensures c.in_default-taken.is in
     stands.none_judged c.args.bytes.now
-    (stands.no_lexeme c.args.bytes.now c.tokens.place (reverse c.tokens.levels.items) c.tokens.fault c.tokens.builder c.tokens.rest.now c.tokens.invariant
+    (stands.no_lexeme c.args.bytes.now c.tokens.place (reverse c.take.new.levels.items) c.tokens.fault c.take.new.builder c.tokens.rest.now was
     (stands.none_next (0 + length c.args.bytes.now) c.tokens.rest.now _ c.in-Ok-read_lexeme.token (told c.read_lexeme.new.buffer.items) c.skip_blanks-ahead.ensures c.in-Ok-read_lexeme.ensures.token c.in_default-token.is)
     (stands.some_left c.tokens.rest.now _ c.skip_blanks-ahead.ensures c.if-is_empty.ensures))
 
@@ -33,9 +34,10 @@ returns-in_default-token-clause-refused c = err_spelled c.args.bytes.now Syntax 
 
 pub returns-in_default-stepped-clause-found : goal.returns-in_default-stepped-clause-found
 returns-in_default-stepped-clause-found c =
+    let was = still_stands c.args.bytes.now c.tokens.place (reverse c.tokens.levels.items) c.tokens.fault c.tokens.builder c.tokens.rest.now c.tokens.invariant _ c.skip_blanks-ahead.result.now (reverse c.take.new.levels.items) c.take.new.builder c.in-Ok.taken c.in-Ok.ensures c.in_default-taken.is in
     let end = 0 + length c.args.bytes.now in
     stands.none_judged c.args.bytes.now
-    (stands.cant_come c.args.bytes.now c.tokens.place (reverse c.tokens.levels.items) c.tokens.fault c.tokens.builder c.tokens.rest.now c.tokens.invariant _ c.in-Some-token.behind.now
+    (stands.cant_come c.args.bytes.now c.tokens.place (reverse c.take.new.levels.items) c.tokens.fault c.take.new.builder c.tokens.rest.now was _ c.in-Some-token.behind.now
     (stands.token_next end c.tokens.rest.now _ c.in-Ok-read_lexeme.token (told c.read_lexeme.new.buffer.items) (c.in-Some-token.lexeme, c.in-Some-token.behind) c.skip_blanks-ahead.ensures c.in-Ok-read_lexeme.ensures.token c.in-Some-token.is)
     (stands.leads_none _ (reverse c.step.new.levels.items) c.in-Ok-step.stepped (c.in-Ok-step.ensures c.read_lexeme.new.buffer.items (end - length (skip c.tokens.rest.now))) c.in_default-stepped.is))
 
@@ -51,35 +53,35 @@ take-requires c =
     let off : length c.args.bytes.now - length c.skip_blanks-ahead.result.now ≡ 0 + length c.args.bytes.now - length (skip c.tokens.rest.now) = omega (arith, ap length c.skip_blanks-ahead.ensures) in
     let small : length c.args.bytes.now < 2 ^ 64 = omega arith in
     record {
-      can = λ token behind next found leads none.
-          stands.can_build c.args.bytes.now c.tokens.place (reverse c.tokens.levels.items) c.tokens.fault c.tokens.builder c.tokens.rest.now c.tokens.invariant token behind next (reverse c.tokens.levels.items)
+      can = λ token behind next later found leads none.
+          stands.can_build c.args.bytes.now c.tokens.place (reverse c.tokens.levels.items) c.tokens.fault c.tokens.builder c.tokens.rest.now c.tokens.invariant token behind next later
           (next_found c.args.bytes.now c.tokens.rest.now _ c.skip_blanks-ahead.result.now token behind c.skip_blanks-ahead.ensures off found) leads small none;
     }
 
 pub tokens-smaller-in-Some : goal.tokens-smaller-in-Some
 tokens-smaller-in-Some c =
     let off : length c.args.bytes.now - length c.skip_blanks-ahead.result.now ≡ 0 + length c.args.bytes.now - length (skip c.tokens.rest.now) = omega (arith, ap length c.skip_blanks-ahead.ensures) in
-    let took = took _ c.tokens.place (reverse c.tokens.levels.items) c.skip_blanks-ahead.result.now c.tokens.fault c.tokens.builder c.take.new.builder c.in-Ok.taken (c.in-Some.next, c.in-Some.behind) c.in-Ok.ensures c.in-Some.is in
+    let took = took _ c.tokens.place (reverse c.tokens.levels.items) (reverse c.take.new.levels.items) c.skip_blanks-ahead.result.now c.tokens.fault c.tokens.builder c.take.new.builder c.in-Ok.taken (c.in-Some.next, c.in-Some.behind) c.in-Ok.ensures c.in-Some.is in
     shorter (0 + length c.args.bytes.now) c.tokens.rest.now (took.token, c.in-Some.behind.now)
     (next_found c.args.bytes.now c.tokens.rest.now _ c.skip_blanks-ahead.result.now took.token c.in-Some.behind.now c.skip_blanks-ahead.ensures off took.found)
 
 pub tokens-preserved-in-Some : goal.tokens-preserved-in-Some
 tokens-preserved-in-Some c =
     let off : length c.args.bytes.now - length c.skip_blanks-ahead.result.now ≡ 0 + length c.args.bytes.now - length (skip c.tokens.rest.now) = omega (arith, ap length c.skip_blanks-ahead.ensures) in
-    turn_taken c.args.bytes.now c.tokens.place (reverse c.tokens.levels.items) c.tokens.fault c.tokens.builder c.tokens.rest.now c.tokens.invariant _ c.skip_blanks-ahead.result.now c.take.new.builder c.in-Some.next c.in-Some.behind.now c.skip_blanks-ahead.ensures off
-    (took _ c.tokens.place (reverse c.tokens.levels.items) c.skip_blanks-ahead.result.now c.tokens.fault c.tokens.builder c.take.new.builder c.in-Ok.taken (c.in-Some.next, c.in-Some.behind) c.in-Ok.ensures c.in-Some.is)
+    turn_taken c.args.bytes.now c.tokens.place (reverse c.tokens.levels.items) c.tokens.fault c.tokens.builder c.tokens.rest.now c.tokens.invariant _ c.skip_blanks-ahead.result.now (reverse c.take.new.levels.items) c.take.new.builder c.in-Some.next c.in-Some.behind.now c.skip_blanks-ahead.ensures off
+    (took _ c.tokens.place (reverse c.tokens.levels.items) (reverse c.take.new.levels.items) c.skip_blanks-ahead.result.now c.tokens.fault c.tokens.builder c.take.new.builder c.in-Ok.taken (c.in-Some.next, c.in-Some.behind) c.in-Ok.ensures c.in-Some.is)
 
 pub keep-requires-clause-can : goal.keep-requires-clause-can
 keep-requires-clause-can c =
-    let was = still_stands c.args.bytes.now c.tokens.place (reverse c.tokens.levels.items) c.tokens.fault c.tokens.builder c.tokens.rest.now c.tokens.invariant _ c.skip_blanks-ahead.result.now c.take.new.builder c.in-Ok.taken c.in-Ok.ensures c.in_default-taken.is in
+    let was = still_stands c.args.bytes.now c.tokens.place (reverse c.tokens.levels.items) c.tokens.fault c.tokens.builder c.tokens.rest.now c.tokens.invariant _ c.skip_blanks-ahead.result.now (reverse c.take.new.levels.items) c.take.new.builder c.in-Ok.taken c.in-Ok.ensures c.in_default-taken.is in
     let end = 0 + length c.args.bytes.now in
     let off : end - length (skip c.tokens.rest.now) ≡ length c.args.bytes.now - length c.skip_blanks-ahead.result.now = omega (arith, ap length c.skip_blanks-ahead.ensures) in
     let small : length c.args.bytes.now < 2 ^ 64 = omega arith in
-    let depth : length (reverse c.tokens.levels.items) ≡ c.len-depth.result = omega (arith, length-reverse c.tokens.levels.items, c.len-depth.ensures, c.tokens.levels.ok) in
+    let depth : length (reverse c.take.new.levels.items) ≡ c.len-depth.result = omega (arith, length-reverse c.take.new.levels.items, c.len-depth.ensures, c.take.new.levels.ok) in
     let token = λ (buffer : List ℕ) (at : ℕ). token_of buffer at c.in-Some-token.lexeme in
     λ z.
     rw (c.deref.ensures.value, ← off, ← depth)
-    (stands.can_build c.args.bytes.now c.tokens.place (reverse c.tokens.levels.items) c.tokens.fault c.take.new.builder c.tokens.rest.now was _ c.in-Some-token.behind.now c.in-Some-stepped.next (reverse c.step.new.levels.items)
+    (stands.can_build c.args.bytes.now c.tokens.place (reverse c.take.new.levels.items) c.tokens.fault c.take.new.builder c.tokens.rest.now was _ c.in-Some-token.behind.now c.in-Some-stepped.next (reverse c.step.new.levels.items)
     (stands.token_next end c.tokens.rest.now _ c.in-Ok-read_lexeme.token (told c.read_lexeme.new.buffer.items) (c.in-Some-token.lexeme, c.in-Some-token.behind) c.skip_blanks-ahead.ensures c.in-Ok-read_lexeme.ensures.token c.in-Some-token.is)
     (stands.leads_some _ (reverse c.step.new.levels.items) c.in-Ok-step.stepped c.in-Some-stepped.next (c.in-Ok-step.ensures c.read_lexeme.new.buffer.items (end - length (skip c.tokens.rest.now))) c.in-Some-stepped.is) small z)
 
@@ -90,11 +92,11 @@ tokens-smaller c =
 
 pub tokens-preserved : goal.tokens-preserved
 tokens-preserved c =
-    let was = still_stands c.args.bytes.now c.tokens.place (reverse c.tokens.levels.items) c.tokens.fault c.tokens.builder c.tokens.rest.now c.tokens.invariant _ c.skip_blanks-ahead.result.now c.take.new.builder c.in-Ok.taken c.in-Ok.ensures c.in_default-taken.is in
+    let was = still_stands c.args.bytes.now c.tokens.place (reverse c.tokens.levels.items) c.tokens.fault c.tokens.builder c.tokens.rest.now c.tokens.invariant _ c.skip_blanks-ahead.result.now (reverse c.take.new.levels.items) c.take.new.builder c.in-Ok.taken c.in-Ok.ensures c.in_default-taken.is in
     let end = 0 + length c.args.bytes.now in
     let off : length c.args.bytes.now - length c.skip_blanks-ahead.result.now ≡ end - length (skip c.tokens.rest.now) = omega (arith, ap length c.skip_blanks-ahead.ensures) in
-    let depth : c.len-depth.result ≡ length (reverse c.tokens.levels.items) = omega (arith, length-reverse c.tokens.levels.items, c.len-depth.ensures, c.tokens.levels.ok) in
-    stands.turn c.args.bytes.now c.tokens.place (reverse c.tokens.levels.items) c.tokens.fault c.take.new.builder c.tokens.rest.now was _ c.in-Some-token.behind.now c.in-Some-stepped.next (reverse c.step.new.levels.items) c.in-Ok-keep.first c.keep.new.builder
+    let depth : c.len-depth.result ≡ length (reverse c.take.new.levels.items) = omega (arith, length-reverse c.take.new.levels.items, c.len-depth.ensures, c.take.new.levels.ok) in
+    stands.turn c.args.bytes.now c.tokens.place (reverse c.take.new.levels.items) c.tokens.fault c.take.new.builder c.tokens.rest.now was _ c.in-Some-token.behind.now c.in-Some-stepped.next (reverse c.step.new.levels.items) c.in-Ok-keep.first c.keep.new.builder
     (stands.token_next end c.tokens.rest.now _ c.in-Ok-read_lexeme.token (told c.read_lexeme.new.buffer.items) (c.in-Some-token.lexeme, c.in-Some-token.behind) c.skip_blanks-ahead.ensures c.in-Ok-read_lexeme.ensures.token c.in-Some-token.is)
     (stands.leads_some _ (reverse c.step.new.levels.items) c.in-Ok-step.stepped c.in-Some-stepped.next (c.in-Ok-step.ensures c.read_lexeme.new.buffer.items (end - length (skip c.tokens.rest.now))) c.in-Some-stepped.is)
     (rw (c.deref.ensures.value, off, depth) at c.in-Ok-keep.ensures)

@@ -1,5 +1,5 @@
 use Rattle.std.proofs.Common.{◌≡◌, ℤ, pos, sym, subst, arith}
-use Rattle.std.proofs.lemmas.Int.{ints, to_z_pos}
+use Rattle.std.proofs.lemmas.Int.{ints}
 use Rattle.std.specs.Prelude.{neg_ℤ}
 use mir.Syntax.{w64}
 use mir.Val.{to_z, of_z}
