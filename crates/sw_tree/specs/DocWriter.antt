@@ -5,7 +5,6 @@ use Rattle.std.specs.Coded.{Coded, code_by, coded×, coded_list, coded_ℕ, code
 use Rattle.std.proofs.Common.{ap, ◌∙◌, sym, arith, eq-eqb}
 use Rattle.std.proofs.lemmas.List.{append-nil}
 use Rattle.std.proofs.lemmas.Bool.{le-leb, lt-leb, leb-true, leb-false}
-use Rattle.std.proofs.lemmas.Bool.Decides.{nat_tests}
 use Rattle.sw_tree.specs.Tree.{Tree, list, map, trees, entries, by_turns, depth, trees_depth, entries_depth, content_len, trees_content_len, entries_content_len}
 use Rattle.sw_tree.specs.Builder as builder
 use Rattle.sw_tree.specs.Builder.{Built, Frame, coded_built, added, longer, is_complete, takes, can_close}
@@ -110,8 +109,12 @@ doc_if b x = cond b (Some x) None
 same : (i : List ℕ) (a s : ℕ) (m : Bool) (cs ds : List Tree) (o : List Frame) → a ≡ s → cs ≡ ds → gained i a m cs o ≡ gained i s m ds o
 same i a s m cs ds o e f = rw (e, f) refl
 
+room_at : (r : Bool) (n a b : ℕ) → n + a ≤ 128 → nat_le (n + b) 128 ≡ r → r ≡ nat_le (n + max a b) 128
+room_at true n a b h e = sym (le-leb (n + max a b) 128 (omega (arith, leb-true (n + b) 128 e)))
+room_at false n a b h e = sym (lt-leb (n + max a b) 128 (omega (arith, leb-false (n + b) 128 e)))
+
 more_room : (n a b : ℕ) → n + a ≤ 128 → nat_le (n + b) 128 ≡ nat_le (n + max a b) 128
-more_room n a b h = grind (arith, nat_tests)
+more_room n a b h = room_at (nat_le (n + b) 128) n a b h refl
 
 less_room : (n a b : ℕ) → 128 < n + a → nat_le (n + max a b) 128 ≡ false
 less_room n a b h = lt-leb (n + max a b) 128 (omega arith)
