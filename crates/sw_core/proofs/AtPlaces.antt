@@ -1,5 +1,5 @@
 -- A list and a map that are read child by child, each at its place.
-use Rattle.std.proofs.Common.{ℕ, ◌≡◌, Bool, List, [], ◌∷◌, Some, Result, Ok, Err, Vec, Global, map, refl, ap, sym, ◌∙◌, subst}
+use Rattle.std.proofs.Common.{ℕ, ◌≡◌, Bool, List, [], ◌∷◌, Some, Result, Ok, Err, Vec, Global, map, refl, ap, subst}
 use Rattle.sw_tree.specs.Meaning.{Meaning, list, meanings}
 use Rattle.sw_tree.specs.Meant.{list_meaning, pair_meaning}
 use Rattle.sw_tree.specs.Mode.{at_key, at_value}

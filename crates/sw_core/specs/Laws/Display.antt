@@ -1,5 +1,5 @@
 -- The laws of a value by its text, from those of the text.
-use Rattle.std.specs.Prelude.{◌≡◌, ℕ, List, Option, Some, None, Bool, true, false, Result, Ok, Err}
+use Rattle.std.specs.Prelude.{◌≡◌, ℕ, List, Option, Some, None, Bool, true, false, Ok, Err}
 use Rattle.std.proofs.Common.{refl, ap, arith}
 use Rattle.sw_tree.specs.Kinds.{has}
 use Rattle.sw_tree.specs.Meaning.{Meaning}

@@ -1,5 +1,5 @@
 -- What a row keeps, from what each of its readers keeps at its tree.
-use Rattle.std.specs.Prelude.{◌≡◌, ◌+◌, ℕ, List, [], ◌∷◌, ◌++◌, cond, is_ok, Result, Ok, Err}
+use Rattle.std.specs.Prelude.{◌≡◌, ◌+◌, List, [], ◌∷◌, ◌++◌, cond, is_ok, Result, Ok, Err}
 use Rattle.std.proofs.Common.{refl, subst, arith}
 use Rattle.sw_tree.specs.Meaning.{Meaning}
 use Rattle.sw_tree.specs.Nodes.{kinds, kinds-size, IsNoteIn}

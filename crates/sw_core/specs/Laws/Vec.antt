@@ -1,5 +1,5 @@
 -- The laws of a list of values, from its parts'.
-use Rattle.std.specs.Prelude.{◌≡◌, List, [], ◌∷◌, map as list_map, ◌≤◌, true, false, not, ◌||◌, option_map, Result, Ok, Err}
+use Rattle.std.specs.Prelude.{◌≡◌, List, [], ◌∷◌, map as list_map, ◌≤◌, true, false, option_map, Ok}
 use Rattle.std.proofs.Common.{refl, ap, sym, subst, ◌∙◌}
 use Rattle.sw_tree.specs.Building.{within}
 use Rattle.sw_tree.specs.Image.{image}
@@ -16,9 +16,7 @@ use Rattle.sw_tree.specs.Tree as node
 use Rattle.sw_tree.specs.declared.mode.Kind.TheVariants as kind
 use Rattle.sw_tree.specs.declared.mode.Mode.{Mode}
 use Rattle.sw_tree.specs.declared.mode.Place.TheVariants.{Value}
-use Rattle.sw_tree.specs.declared.fail.SerError.{SerError}
 use Rattle.sw_tree.specs.declared.fail.SerError.TheVariants as ser
-use Rattle.sw_tree.specs.declared.fail.DeError.{DeError}
 use Rattle.sw_check.specs.Blame.{IsSound}
 use Rattle.sw_check.specs.Form.{Form, vec}
 use Rattle.sw_check.specs.Rules.{is_json_key, holds}
@@ -34,7 +32,7 @@ use Rattle.sw_core.specs.Rows.{Reader, reader, each_by, row_reads}
 use Rattle.sw_core.specs.Vec.{list_writes, list_plan, list_reads, list_spot, list_skips, list_norm}
 use Rattle.sw_core.specs.Laws.Each.{Beside, each_made, each_imaged, each_back, each_never, each_kept, each_same, each_normed}
 use Rattle.sw_core.specs.Laws.Images.{list-image, mapped_some}
-use Rattle.sw_core.specs.Laws.Nodes.{IsOwn, IsBelow, IsOfKind}
+use Rattle.sw_core.specs.Laws.Nodes.{IsBelow, IsOfKind}
 use Rattle.sw_core.specs.Laws.Plans.{RefusesItself, plan_lawful, plan_spot_kinds, plan_note_kinds}
 use Rattle.sw_core.specs.Laws.Rows.{EachAt, Refuses, Notes, each_by-at, reader_below, reader_kinds, reader_notes, AreRead, each-meant}
 use Rattle.sw_core.specs.Laws.Within.{within_ok, within_shallow, within_key}

@@ -3,6 +3,7 @@ use Rattle.std.specs.Prelude.{◌≡◌, Bool, true, false, ◌||◌, cond, is_o
 use Rattle.std.proofs.Common.{refl, ap, ◌∙◌}
 use Rattle.sw_tree.specs.Meaning.{Meaning}
 use Rattle.sw_tree.specs.Mode.{marked}
+use Rattle.sw_tree.specs.Proper.{IsNodeTree}
 use Rattle.sw_tree.specs.Steps.{Each}
 use Rattle.sw_tree.specs.Tree.{Tree, kind_of}
 use Rattle.sw_tree.specs.declared.mode.Mode.{Mode}
@@ -13,16 +14,39 @@ use Rattle.sw_tree.specs.declared.fail.DeKind.{DeKind}
 use Rattle.sw_check.specs.Form.{Form, pick_first, no_forms, forms}
 use Rattle.sw_check.specs.Kinds.{kinds_read, any_reads}
 use Rattle.sw_check.specs.Sound.{sound-checked}
-use Rattle.sw_elem.specs.Equations.{Writes, Reads, Spots, Skips, own_spot}
+use Rattle.sw_elem.specs.Equations.{Writes, Reads, Spots, Skips, LawfulReading, own_spot, own_spot-inside}
 use Rattle.sw_elem.specs.Laws.{Norm, HasSpotKinds, HasNoteKinds}
 use Rattle.sw_elem.specs.Lawful.{Lawful}
 use Rattle.sw_policy.specs.Options.{Reader, reader, or_later, first_read, tried_skips}
-use Rattle.sw_policy.specs.PickFirst.{or_no_variant, pick_reads, pick_skips}
-use Rattle.sw_policy.specs.PickFirstLaws.{or_later-ok, or_no_variant-ok}
+use Rattle.sw_policy.specs.PickFirst.{or_no_variant, pick_reads, pick_skips, pick_norm}
 
--- the norm of the first option, buffered
-abbrev pub pick_norm : Norm → Norm
-pick_norm n m v = n (marked m) v
+-- ---- reading
+
+pub or_later-ok : (P : Meaning → Type 0) (r : Result Meaning DeError) (q : Result Meaning (List DeKind)) (v : Meaning) → (r ≡ Ok v → P v) → (q ≡ Ok v → P v) → or_later r q ≡ Ok v → P v
+or_later-ok P (Ok w) q v a b p = let e : w ≡ v = cc in a (ap Ok e)
+or_later-ok P (Err e) (Ok w) v a b p = b p
+or_later-ok P (Err e) (Err ks) v a b p = absurd (cc)
+
+pub or_no_variant-ok : (q : Result Meaning (List DeKind)) (v : Meaning) → or_no_variant q ≡ Ok v → q ≡ Ok v
+or_no_variant-ok (Ok w) v p = let e : w ≡ v = cc in ap Ok e
+or_no_variant-ok (Err ks) v p = absurd (cc)
+
+module _ (P : Meaning → Type 0) where
+  -- what an option reads is one of those meanings
+  abbrev pub GivesMeanings : Reader → Type 0
+  GivesMeanings o = (m : Mode) (t : Tree) (v : Meaning) → IsNodeTree t → o.reads m t ≡ Ok v → P v
+
+  first_meanings : (os : List Reader) → Each GivesMeanings os → (m : Mode) (t : Tree) (v : Meaning) → IsNodeTree t → first_read os m t ≡ Ok v → P v
+  first_meanings [] h m t v n p = absurd (cc)
+  first_meanings (o ∷ os) h m t v n p = or_later-ok P (o.reads m t) (first_read os m t) v (h.0 m t v n) (first_meanings os h.1 m t v n) p
+
+  pub pick_lawful : (os : List Reader) → Each GivesMeanings os → LawfulReading P (pick_reads os) own_spot
+  pick_lawful os h = record {
+    meanings = λ m t v n p. first_meanings os h (marked m) t v n (or_no_variant-ok (first_read os (marked m) t) v p);
+    inside = λ m t e p. own_spot-inside m t;
+  }
+
+-- ---- all laws
 
 -- what an option that is tried keeps: it reads trees of its expression's kinds alone, and what it passes over are nodes of the tree
 pub record IsOption (e : Form) (o : Reader) : Type 0 where
