@@ -26,8 +26,8 @@ use Rattle.sw_tree.specs.declared.fail.SerError.{SerError}
 use Rattle.sw_tree.specs.declared.fail.SerFail.{SerFail}
 use Rattle.sw_tree.specs.declared.fail.SerFail.TheVariants as ser
 use Rattle.sw_core.specs.Again.{SpellsImage, ReadsAgain, IsKept}
-use Rattle.sw_core.specs.AgainLaws.{kept_spells, kept_again}
-use Rattle.sw_core.specs.Printing.{text_or_key, printed_as, IsPrintedAs}
+use Rattle.sw_core.specs.Laws.Again.{kept_spells, kept_again}
+use Rattle.sw_core.specs.Inner.Printing.{text_or_key, printed_as, IsPrintedAs}
 use Rattle.sw_core.specs.Recoding.{answer, write_error}
 use Rattle.sw_core.specs.declared.recode.RecodeError.{RecodeError}
 use Rattle.sw_core.specs.declared.recode.RecodeError.TheVariants as fail

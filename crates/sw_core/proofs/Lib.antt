@@ -1,5 +1,6 @@
 pub mod Logs
-pub mod Lists
+pub mod Rows
+pub mod AtPlaces
 pub mod Putting
 pub mod Recoding
 pub mod Again

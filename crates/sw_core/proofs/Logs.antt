@@ -1,7 +1,5 @@
 -- A log that grows by a part of the refusals at a time.
-use Rattle.std.proofs.Common.{List, [], ◌∷◌, ◌++◌, ◌≡◌, cond, is_ok, Result, append_assoc, append-nil, refl, sym, ap, ◌∙◌}
-use Rattle.sw_tree.specs.Placed.{logs_each}
-use Rattle.sw_tree.specs.Seen.{Seen}
+use Rattle.std.proofs.Common.{List, [], ◌++◌, ◌≡◌, append_assoc, append-nil, refl, sym, ap, ◌∙◌}
 use Rattle.sw_tree.specs.declared.fail.Refusal.{Refusal}
 use Rattle.sw_elem.specs.Answers.{HasGained, IsCut}
 
@@ -19,6 +17,10 @@ gained_more old now new gains first rest h e =
 pub gained_all : (old new gains : List Refusal) → HasGained old new gains [] → new ≡ old ++ gains
 gained_all old new gains h = h.log ∙ ap (λ l. old ++ l) (sym (h.split ∙ append-nil h.part))
 
+-- want of memory before anything is logged
+pub cut_at_start : (old gains : List Refusal) → IsCut old old gains
+cut_at_start old gains = record { rest = gains; gained = gained_none old gains }
+
 pub cut_here : (old new gains rest : List Refusal) → HasGained old new gains rest → IsCut old new gains
 cut_here old new gains rest h = record { rest = rest; gained = h }
 
@@ -33,12 +35,4 @@ cut_within old now new gains first rest h c =
       };
     }
 
--- want of memory in an item, and behind it
-module _ {M : Type 0} (reads : Seen → Result M Refusal) (logs : Seen → List Refusal) where
-  pub cut_in_item : (old now new gains : List Refusal) (xs : List Seen) (s : Seen) (ss : List Seen) → xs ≡ s ∷ ss → HasGained old now gains (logs_each reads logs xs) → IsCut now new (logs s) → IsCut old new gains
-  cut_in_item old now new gains xs s ss e h c = cut_within old now new gains (logs s) (cond (is_ok (reads s)) (logs_each reads logs ss) []) (rw e at h) c
-
-  pub cut_behind_item : (old now new gains : List Refusal) (xs : List Seen) (s : Seen) (ss : List Seen) → xs ≡ s ∷ ss → HasGained old now gains (logs_each reads logs xs) → new ≡ now ++ logs s → IsCut old new gains
-  cut_behind_item old now new gains xs s ss e h k = let rest = cond (is_ok (reads s)) (logs_each reads logs ss) [] in cut_here old new gains rest (gained_more old now new gains (logs s) rest (rw e at h) k)
-
-pub ruleset gains = (gained_none, gained_more, gained_all, cut_here, cut_within)
+pub ruleset gains = (gained_none, gained_more, gained_all, cut_at_start, cut_here, cut_within)

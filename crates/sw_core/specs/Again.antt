@@ -1,5 +1,5 @@
 -- What a sound nest promises of a value that it writes: its bytes read again.
-use Rattle.std.specs.Prelude.{◌≡◌, ℕ, List, Result, Ok, Err, Some}
+use Rattle.std.specs.Prelude.{◌≡◌, ℕ, List, Ok, Err, Some}
 use Rattle.sw_tree.specs.Image.{image}
 use Rattle.sw_tree.specs.Meaning.{Meaning}
 use Rattle.sw_tree.specs.Mode.{plain}

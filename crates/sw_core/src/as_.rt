@@ -4,7 +4,7 @@ ghost use Rattle.sw_tree.specs.View.{seen, tree_of};
 ghost use Rattle.sw_tree.specs.Mode.{plain};
 ghost use Rattle.sw_tree.specs.Tree.{Tree};
 ghost use Rattle.sw_tree.specs.Short.{IsShort};
-ghost use Rattle.sw_core.specs.Printing.{IsPrintedAs, printed_as};
+ghost use Rattle.sw_core.specs.Inner.Printing.{IsPrintedAs, printed_as};
 ghost use Rattle.sw_tree.specs.declared.fail.SerError.TheVariants.{Key};
 ghost use Rattle.sw_check.specs.Grade.{grade};
 ghost use Rattle.sw_check.specs.declared.grade.Grade.TheVariants.{Exact};

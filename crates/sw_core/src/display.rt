@@ -35,7 +35,7 @@ impl<T: TextForm> SerializeAs<T> for DisplayFromStr {
 impl<T: TextForm> DeserializeAs<T> for DisplayFromStr {
     ghost use Rattle.sw_elem.specs.Equations.{own_spot, no_skips};
     ghost use Rattle.sw_core.specs.Display.{display_reads};
-    ghost use Rattle.sw_core.specs.DisplayLaws.{display_lawful};
+    ghost use Rattle.sw_core.specs.Laws.Display.{display_lawful};
 
     const FREE: bool = T::FREE;
 
@@ -63,14 +63,14 @@ impl<T: TextForm> DeserializeAs<T> for DisplayFromStr {
         }
     }
 
-    ghost lawful = { display_lawful T.is_meaning T.shows T.parses T.class T.lawful };
+    ghost lawful = { display_lawful T.lawful };
 }
 
 impl<T: TextForm> Adapter<T> for DisplayFromStr {
     ghost use Rattle.sw_check.specs.Form.{leaf};
     ghost use Rattle.sw_elem.specs.Lawful.{same_norm};
     ghost use Rattle.sw_elem.specs.Facts.{text_facts};
-    ghost use Rattle.sw_core.specs.DisplayKeeps.{display_keeps};
+    ghost use Rattle.sw_core.specs.Laws.Display.{display_keeps};
 
     ghost expr = { leaf text_facts };
 
@@ -82,5 +82,5 @@ impl<T: TextForm> Adapter<T> for DisplayFromStr {
         Ok(Expr::leaf(text_facts()))
     }
 
-    ghost keeps = { display_keeps T.is_meaning T.shows T.parses T.class T.lawful };
+    ghost keeps = { display_keeps T.lawful };
 }

@@ -1,50 +1,74 @@
 #![tactic(auto, using(crate::proofs::Logs::gains))]
 
-ghost use Rattle.sw_tree.specs.Steps.{bind, traverse};
-ghost use Rattle.sw_tree.specs.Building.{within, IsPut};
-ghost use Rattle.sw_tree.specs.Tree.{list, trees};
-ghost use Rattle.sw_tree.specs.Placed.{placed, placed_notes, logs_each};
-ghost use Rattle.sw_elem.specs.Answers.{IsLogged};
-ghost use Rattle.sw_core.specs.Each.{AreRead};
+ghost use Rattle.std.specs.Prelude.{map};
+ghost use Rattle.sw_tree.specs.Building.{IsPut};
+ghost use Rattle.sw_tree.specs.Meant.{list_meaning};
+ghost use Rattle.sw_tree.specs.Placed.{placed, placed_notes};
+ghost use Rattle.sw_tree.specs.View.{seen, tree_of};
+ghost use Rattle.sw_elem.specs.Answers.{IsRead, IsLogged};
+ghost use Rattle.sw_core.specs.Inner.Rows.{seen_reads, seen_logs};
+ghost use Rattle.sw_core.specs.Rows.{reader, each_by};
+ghost use Rattle.sw_core.specs.Vec.{list_writes, list_reads, list_spot, list_skips};
 
 use crate::adapter::{DeserializeAs, SerializeAs};
 use std::alloc::Global;
+use sw_elem::refuse::refused_at;
 use sw_tree::builds::Builds;
-use sw_tree::fail::{DeFail, SerFail};
+use sw_tree::fail::{DeError, DeFail, SerFail};
 use sw_tree::meant::Meant;
 use sw_tree::mode::Mode;
 use sw_tree::skipped::Skipped;
-use sw_tree::view::Items;
+use sw_tree::view::{Items, View};
 
-/// Puts in the list of these values, each by `A`.
+/// Puts in the list of these values, each by `A` in value place.
 ///
 /// The first part that isn't written decides. Without one, a list of which a part has 128 levels is
 /// `TooDeep`.
-pub fn write_each<T: Meant, A: SerializeAs<T>, B: Builds>(
+pub fn write_list<T: Meant, A: SerializeAs<T>, B: Builds>(
     alloc: Global,
     out: &mut B,
     values: &[T],
     mode: Mode,
 ) -> Result<(), SerFail>
-    ensures { IsPut B.put result (bind (traverse (λ x. A.writes mode (T.meaning x)) values.now) (λ ts. within (list (trees ts)))) out.old out.new }
+    ensures { IsPut B.put result (list_writes A.writes mode (list_meaning T.meaning values.now)) out.old out.new }
 {
     out.open_list(values.len())?;
     for value in values {
-        A::write_as(alloc, out, value, mode)?;
+        A::write_as(alloc, out, value, mode.value())?;
     }
     out.close()
 }
 
+/// The values of a list's items, each by `A` in value place. A node of another kind is refused as
+/// `InvalidType` of that kind; else the first item that is refused decides.
+pub fn read_list<T: Meant, A: DeserializeAs<T>>(
+    alloc: Global,
+    view: View<'_>,
+    mode: Mode,
+    log: &mut Skipped,
+) -> Result<Vec<T>, DeFail>
+    ensures answer { IsRead
+        (λ values. list_meaning T.meaning values.items)
+        result
+        (placed (list_reads A.reads A.spot A.skips mode) (list_spot A.reads A.spot A.skips mode) (seen view.entry)) }
+    ensures logs { IsLogged result log.old (placed_notes (seen view.entry) (list_skips A.reads A.spot A.skips mode (tree_of view.entry))) log.new }
+{
+    match view.items() {
+        None => Err(refused_at(view, DeError::InvalidType(view.kind()))),
+        Some(items) => read_each::<T, A>(alloc, view.len(), items, mode.value(), log),
+    }
+}
+
 /// Reads each item by `A`, into a list with room for so many taken at once.
-pub fn read_each<T: Meant, A: DeserializeAs<T>>(
+fn read_each<T: Meant, A: DeserializeAs<T>>(
     alloc: Global,
     room: usize,
     items: Items<'_>,
     mode: Mode,
     log: &mut Skipped,
 ) -> Result<Vec<T>, DeFail>
-    ensures answer { AreRead T.meaning result (traverse (placed (A.reads mode) (A.spot mode)) items.entry) }
-    ensures logs { IsLogged result log.old (logs_each (placed (A.reads mode) (A.spot mode)) (λ s. placed_notes s (A.skips mode s.tree)) items.entry) log.new }
+    ensures answer { IsRead (λ values. map T.meaning values.items) result (seen_reads (each_by (reader A.reads A.spot A.skips mode) items.entry) items.entry) }
+    ensures logs { IsLogged result log.old (seen_logs (each_by (reader A.reads A.spot A.skips mode) items.entry) items.entry) log.new }
 {
     let Ok(mut values) = Vec::with_capacity(alloc, room) else {
         return Err(DeFail::Memory);

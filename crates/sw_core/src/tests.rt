@@ -9,7 +9,7 @@ use crate::adapter::{Adapter, DeserializeAs};
 use crate::as_::As;
 use crate::display::DisplayFromStr;
 use crate::faithful::faithful;
-use crate::laws::{
+use crate::free::{
     are_copies_free, are_leaves_free, are_parsed_leaves_free, is_list_free, is_parsed_text_free,
 };
 use crate::recode::RecodeError;
@@ -155,7 +155,7 @@ struct ByteWire;
 impl Wire for ByteWire {
     ghost use Rattle.sw_tree.specs.declared.mode.WireKind.TheVariants.{Compact};
     ghost use Rattle.sw_tree.specs.NodeBuilder.{fresh};
-    ghost use Rattle.sw_core.specs.ByteWire.{byte_spells, byte_spelled, byte_text, byte_grammar, byte_prints_images};
+    ghost use Rattle.sw_core.specs.Inner.ByteWire.{byte_spells, byte_spelled, byte_text, byte_grammar, byte_prints_images};
 
     const ID: WireKind = WireKind::Compact;
 

@@ -1,12 +1,11 @@
-#![tactic(auto, using(crate::proofs::Lists::written))]
+#![tactic(auto)]
 
 use crate::adapter::{Adapter, DeserializeAs, SerializeAs};
 use crate::each;
 use std::alloc::{AllocError, Global};
 use sw_check::expr::Expr;
-use sw_elem::refuse::refused_at;
 use sw_tree::builds::Builds;
-use sw_tree::fail::{DeError, DeFail, SerFail};
+use sw_tree::fail::{DeFail, SerFail};
 use sw_tree::meant::Meant;
 use sw_tree::mode::Mode;
 use sw_tree::skipped::Skipped;
@@ -17,7 +16,7 @@ use sw_tree::view::View;
 /// The first part that isn't written decides. Without one, a list of which a part has 128 levels is
 /// `TooDeep`.
 impl<T: Meant, A: SerializeAs<T>> SerializeAs<Vec<T>> for Vec<A> {
-    ghost use Rattle.sw_core.specs.Lists.{list_writes};
+    ghost use Rattle.sw_core.specs.Vec.{list_writes};
 
     ghost writes = { list_writes A.writes };
 
@@ -27,7 +26,7 @@ impl<T: Meant, A: SerializeAs<T>> SerializeAs<Vec<T>> for Vec<A> {
         source: &Vec<T>,
         mode: Mode,
     ) -> Result<(), SerFail> {
-        each::write_each::<T, A, B>(alloc, out, source.as_slice(), mode.value())
+        each::write_list::<T, A, B>(alloc, out, source.as_slice(), mode)
     }
 }
 
@@ -35,18 +34,18 @@ impl<T: Meant, A: SerializeAs<T>> SerializeAs<Vec<T>> for Vec<A> {
 /// that kind; else the first item that is refused decides.
 impl<T: Meant, A: DeserializeAs<T>> DeserializeAs<Vec<T>> for Vec<A> {
     ghost use Rattle.std.specs.Prelude.{false};
-    ghost use Rattle.sw_core.specs.Lists.{list_reads, list_spot, list_skips};
-    ghost use Rattle.sw_core.specs.ListLaws.{list_lawful};
+    ghost use Rattle.sw_core.specs.Vec.{list_reads, list_spot, list_skips};
+    ghost use Rattle.sw_core.specs.Laws.Vec.{list_lawful};
 
     const FREE: bool = false;
 
     ghost FREE = { false };
 
-    ghost reads = { list_reads A.reads };
+    ghost reads = { list_reads A.reads A.spot A.skips };
 
-    ghost spot = { list_spot A.reads A.spot };
+    ghost spot = { list_spot A.reads A.spot A.skips };
 
-    ghost skips = { list_skips A.reads A.skips };
+    ghost skips = { list_skips A.reads A.spot A.skips };
 
     fn deserialize_as(
         alloc: Global,
@@ -54,20 +53,17 @@ impl<T: Meant, A: DeserializeAs<T>> DeserializeAs<Vec<T>> for Vec<A> {
         mode: Mode,
         log: &mut Skipped,
     ) -> Result<Vec<T>, DeFail> {
-        match view.items() {
-            None => Err(refused_at(view, DeError::InvalidType(view.kind()))),
-            Some(items) => each::read_each::<T, A>(alloc, view.len(), items, mode.value(), log),
-        }
+        each::read_list::<T, A>(alloc, view, mode, log)
     }
 
-    ghost lawful = { list_lawful T.is_meaning A.reads A.spot A.lawful };
+    ghost lawful = { list_lawful A.skips A.lawful };
 }
 
 /// It is as faithful as its parts: the norm of a list has its items' norms.
 impl<T: Meant, A: Adapter<T>> Adapter<Vec<T>> for Vec<A> {
     ghost use Rattle.sw_check.specs.Form.{vec};
-    ghost use Rattle.sw_core.specs.ListBack.{list_norm};
-    ghost use Rattle.sw_core.specs.VecKeeps.{vec_keeps};
+    ghost use Rattle.sw_core.specs.Vec.{list_norm};
+    ghost use Rattle.sw_core.specs.Laws.Vec.{list_keeps};
 
     ghost expr = { vec A.expr };
 
@@ -79,5 +75,5 @@ impl<T: Meant, A: Adapter<T>> Adapter<Vec<T>> for Vec<A> {
         Expr::vec(alloc, A::describe(alloc)?)
     }
 
-    ghost keeps = { vec_keeps T.is_meaning A.writes A.reads A.spot A.skips A.expr A.norm A.assumes A.keeps };
+    ghost keeps = { list_keeps A.keeps };
 }

@@ -1,9 +1,8 @@
 //! Maps over lists of pairs: every entry is kept, in order.
 #![tactic(auto)]
 
-pub mod laws;
+pub mod free;
 pub mod map;
-mod pairs;
 
 pub use map::Map;
 

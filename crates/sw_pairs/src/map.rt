@@ -1,11 +1,10 @@
-use crate::pairs;
 use std::alloc::{AllocError, Global};
 use std::marker::PhantomData;
 use sw_check::expr::Expr;
 use sw_core::adapter::{Adapter, DeserializeAs, SerializeAs};
-use sw_elem::refuse::refused_at;
+use sw_core::entries;
 use sw_tree::builds::Builds;
-use sw_tree::fail::{DeError, DeFail, SerFail};
+use sw_tree::fail::{DeFail, SerFail};
 use sw_tree::meant::Meant;
 use sw_tree::mode::Mode;
 use sw_tree::skipped::Skipped;
@@ -25,9 +24,9 @@ pub struct Map<K, V> {
 /// key or value has 128 levels is `TooDeep`.
 impl<T: Meant, U: Meant, K: SerializeAs<T>, V: SerializeAs<U>> SerializeAs<Vec<(T, U)>>
     for Map<K, V> {
-    ghost use Rattle.sw_pairs.specs.Maps.{map_writes};
+    ghost use Rattle.sw_core.specs.Entries.{entries_writes};
 
-    ghost writes = { map_writes K.writes V.writes };
+    ghost writes = { entries_writes K.writes V.writes };
 
     fn write_as<B: Builds>(
         alloc: Global,
@@ -35,7 +34,7 @@ impl<T: Meant, U: Meant, K: SerializeAs<T>, V: SerializeAs<U>> SerializeAs<Vec<(
         source: &Vec<(T, U)>,
         mode: Mode,
     ) -> Result<(), SerFail> {
-        pairs::write_entries::<T, U, K, V, B>(alloc, out, source.as_slice(), mode)
+        entries::write_entries::<T, U, K, V, B>(alloc, out, source.as_slice(), mode)
     }
 }
 
@@ -45,18 +44,18 @@ impl<T: Meant, U: Meant, K: SerializeAs<T>, V: SerializeAs<U>> SerializeAs<Vec<(
 impl<T: Meant, U: Meant, K: DeserializeAs<T>, V: DeserializeAs<U>> DeserializeAs<Vec<(T, U)>>
     for Map<K, V> {
     ghost use Rattle.std.specs.Prelude.{false};
-    ghost use Rattle.sw_pairs.specs.Maps.{map_reads, map_spot, map_skips};
-    ghost use Rattle.sw_pairs.specs.MapLaws.{map_lawful};
+    ghost use Rattle.sw_core.specs.Entries.{entries_reads, entries_spot, entries_skips};
+    ghost use Rattle.sw_core.specs.Laws.Entries.{entries_lawful};
 
     const FREE: bool = false;
 
     ghost FREE = { false };
 
-    ghost reads = { map_reads K.reads V.reads };
+    ghost reads = { entries_reads K.reads K.spot K.skips V.reads V.spot V.skips };
 
-    ghost spot = { map_spot K.reads K.spot V.reads V.spot };
+    ghost spot = { entries_spot K.reads K.spot K.skips V.reads V.spot V.skips };
 
-    ghost skips = { map_skips K.reads K.skips V.reads V.skips };
+    ghost skips = { entries_skips K.reads K.spot K.skips V.reads V.spot V.skips };
 
     fn deserialize_as(
         alloc: Global,
@@ -64,26 +63,21 @@ impl<T: Meant, U: Meant, K: DeserializeAs<T>, V: DeserializeAs<U>> DeserializeAs
         mode: Mode,
         log: &mut Skipped,
     ) -> Result<Vec<(T, U)>, DeFail> {
-        match view.entries() {
-            None => Err(refused_at(view, DeError::InvalidType(view.kind()))),
-            Some(entries) => {
-                pairs::read_pairs::<T, U, K, V>(alloc, entries, view.len(), mode, log)
-            }
-        }
+        entries::read_entries::<T, U, K, V>(alloc, view, mode, log)
     }
 
-    ghost lawful = { map_lawful T.is_meaning U.is_meaning K.reads K.spot K.lawful V.reads V.spot V.lawful };
+    ghost lawful = { entries_lawful K.skips K.lawful V.skips V.lawful };
 }
 
 /// It is as faithful as its keys and values: the norm of a map has its keys' and values' norms.
 impl<T: Meant, U: Meant, K: Adapter<T>, V: Adapter<U>> Adapter<Vec<(T, U)>> for Map<K, V> {
     ghost use Rattle.sw_check.specs.Form.{map};
-    ghost use Rattle.sw_pairs.specs.MapBack.{map_norm};
-    ghost use Rattle.sw_pairs.specs.MapKeeps.{map_keeps};
+    ghost use Rattle.sw_core.specs.Entries.{entries_norm};
+    ghost use Rattle.sw_core.specs.Laws.Entries.{entries_keeps};
 
     ghost expr = { map K.expr V.expr };
 
-    ghost norm = { map_norm K.norm V.norm };
+    ghost norm = { entries_norm K.norm V.norm };
 
     ghost assumes = { K.assumes × V.assumes };
 
@@ -91,5 +85,5 @@ impl<T: Meant, U: Meant, K: Adapter<T>, V: Adapter<U>> Adapter<Vec<(T, U)>> for 
         Expr::map(alloc, K::describe(alloc)?, V::describe(alloc)?)
     }
 
-    ghost keeps = { map_keeps T.is_meaning K.writes K.reads K.spot K.skips K.expr K.norm K.assumes K.keeps U.is_meaning V.writes V.reads V.spot V.skips V.expr V.norm V.assumes V.keeps };
+    ghost keeps = { entries_keeps K.keeps V.keeps };
 }

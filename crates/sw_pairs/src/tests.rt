@@ -1,4 +1,4 @@
-use crate::laws::is_map_free;
+use crate::free::is_map_free;
 use crate::map::Map;
 use std::alloc::{AllocError, Global};
 use sw_check::blame::CheckFail;

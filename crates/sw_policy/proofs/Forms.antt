@@ -4,7 +4,7 @@ use Rattle.sw_tree.specs.Meaning.{Meaning}
 use Rattle.sw_tree.specs.Meant.{list_meaning}
 use Rattle.sw_tree.specs.declared.mode.Mode.{Mode}
 use Rattle.sw_elem.specs.Equations.{Writes}
-use Rattle.sw_core.specs.Lists.{list_writes}
+use Rattle.sw_core.specs.Vec.{list_writes}
 use Rattle.sw_policy.specs.OneOrMany.{one_or_many_writes}
 
 -- a list of another length than one

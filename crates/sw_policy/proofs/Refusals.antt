@@ -9,7 +9,7 @@ use Rattle.sw_tree.specs.declared.fail.DeKind.{DeKind}
 use Rattle.sw_tree.specs.declared.fail.Refusal.{Refusal}
 use Rattle.sw_policy.specs.Options.{or_later}
 use Rattle.sw_policy.specs.PickFirst.{four}
-use Rattle.sw_policy.specs.Chosen.{before, in_four}
+use Rattle.sw_policy.specs.Inner.Chosen.{before, in_four}
 
 before-four : (k : DeKind) (ks : List DeKind) → before k (four ks) ≡ four (k ∷ ks)
 before-four k [] = refl

@@ -1,8 +1,5 @@
 pub mod Options
 pub mod PickFirst
-pub mod PickFirstLaws
-pub mod PickFirstKeeps
-pub mod Chosen
 pub mod OneOrMany
-pub mod OneOrManyLaws
-pub mod OneOrManyKeeps
+pub mod Inner
+pub mod Laws

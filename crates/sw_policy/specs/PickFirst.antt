@@ -6,6 +6,7 @@ use Rattle.sw_tree.specs.declared.fail.DeError.{DeError}
 use Rattle.sw_tree.specs.declared.fail.DeError.TheVariants.{NoVariant}
 use Rattle.sw_tree.specs.declared.fail.DeKind.{DeKind}
 use Rattle.sw_elem.specs.Equations.{Reads, Skips}
+use Rattle.sw_elem.specs.Laws.{Norm}
 use Rattle.sw_policy.specs.Options.{Reader, first_read, tried_skips}
 
 -- up to four kinds, in four places
@@ -26,3 +27,7 @@ pick_reads os m t = or_no_variant (first_read os (marked m) t)
 
 abbrev pub pick_skips : List Reader → Skips
 pick_skips os m t = tried_skips os (marked m) t
+
+-- the norm of the first option, buffered
+abbrev pub pick_norm : Norm → Norm
+pick_norm n m v = n (marked m) v

@@ -1,7 +1,7 @@
 //! Choice: the first of several forms of a value that is found.
 #![tactic(auto)]
 
-pub mod laws;
+pub mod free;
 pub mod one_or_many;
 mod options;
 pub mod pick_first;

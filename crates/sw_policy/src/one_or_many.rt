@@ -56,17 +56,17 @@ impl<T: Meant, A: DeserializeAs<T>, F: Preference> DeserializeAs<Vec<T>> for One
     ghost use Rattle.std.specs.Prelude.{false};
     ghost use Rattle.sw_elem.specs.Equations.{own_spot};
     ghost use Rattle.sw_policy.specs.OneOrMany.{one_or_many_reads, one_or_many_skips};
-    ghost use Rattle.sw_policy.specs.OneOrManyLaws.{one_or_many_lawful};
+    ghost use Rattle.sw_policy.specs.Laws.OneOrMany.{one_or_many_lawful};
 
     const FREE: bool = false;
 
     ghost FREE = { false };
 
-    ghost reads = { one_or_many_reads A.reads A.skips };
+    ghost reads = { one_or_many_reads A.reads A.spot A.skips };
 
     ghost spot = { own_spot };
 
-    ghost skips = { one_or_many_skips A.reads A.skips };
+    ghost skips = { one_or_many_skips A.reads A.spot A.skips };
 
     fn deserialize_as(
         alloc: Global,
@@ -77,7 +77,7 @@ impl<T: Meant, A: DeserializeAs<T>, F: Preference> DeserializeAs<Vec<T>> for One
         choose::<Vec<T>, (Alone<A>, Vec<A>)>(alloc, view, mode, log)
     }
 
-    ghost lawful = { one_or_many_lawful T.is_meaning A.reads A.spot A.lawful A.skips };
+    ghost lawful = { one_or_many_lawful A.lawful A.skips };
 }
 
 /// It is as faithful as its part, buffered in value place: the norm of a list has its items' norms.
@@ -85,7 +85,8 @@ impl<T: Meant, A: DeserializeAs<T>, F: Preference> DeserializeAs<Vec<T>> for One
 /// The part reads no list, where the expression is sound: so what is written as a list is read as one.
 impl<T: Meant, A: Adapter<T>, F: Preference> Adapter<Vec<T>> for OneOrMany<A, F> {
     ghost use Rattle.sw_check.specs.Form.{one_or_many};
-    ghost use Rattle.sw_policy.specs.OneOrManyKeeps.{one_or_many_norm, one_or_many_keeps};
+    ghost use Rattle.sw_policy.specs.OneOrMany.{one_or_many_norm};
+    ghost use Rattle.sw_policy.specs.Laws.OneOrMany.{one_or_many_keeps};
 
     ghost expr = { one_or_many A.expr };
 
@@ -108,7 +109,7 @@ struct Alone<A> {
 impl<T: Meant, A: DeserializeAs<T>> DeserializeAs<Vec<T>> for Alone<A> {
     ghost use Rattle.std.specs.Prelude.{false};
     ghost use Rattle.sw_policy.specs.OneOrMany.{alone_reads, alone_spot, alone_skips};
-    ghost use Rattle.sw_policy.specs.OneOrManyLaws.{alone_lawful};
+    ghost use Rattle.sw_policy.specs.Laws.OneOrMany.{alone_lawful};
 
     const FREE: bool = false;
 
@@ -133,7 +134,7 @@ impl<T: Meant, A: DeserializeAs<T>> DeserializeAs<Vec<T>> for Alone<A> {
         }
     }
 
-    ghost lawful = { alone_lawful T.is_meaning A.reads A.spot A.lawful };
+    ghost lawful = { alone_lawful A.lawful };
 }
 
 /// The list of that value alone.

@@ -7,7 +7,7 @@ ghost use Rattle.sw_elem.specs.Equations.{own_spot};
 ghost use Rattle.sw_elem.specs.Answers.{IsRead, IsLogged, ReadsFreely};
 ghost use Rattle.sw_policy.specs.Options.{or_later, first_read, tried_skips};
 ghost use Rattle.sw_policy.specs.PickFirst.{pick_reads, pick_skips};
-ghost use Rattle.sw_policy.specs.Chosen.{before, IsChosen, AreTried, ChoosesFreely};
+ghost use Rattle.sw_policy.specs.Inner.Chosen.{before, IsChosen, AreTried, ChoosesFreely};
 
 use std::alloc::Global;
 use sw_core::adapter::DeserializeAs;
@@ -32,7 +32,7 @@ pub(crate) trait Options<T: Meant> {
     ghost use Rattle.sw_tree.specs.Placed.{placed_notes};
     ghost use Rattle.sw_tree.specs.View.{seen, tree_of};
     ghost use Rattle.sw_policy.specs.Options.{Reader, first_read, tried_skips};
-    ghost use Rattle.sw_policy.specs.Chosen.{IsChosen, AreTried, ChoosesFreely};
+    ghost use Rattle.sw_policy.specs.Inner.Chosen.{IsChosen, AreTried, ChoosesFreely};
 
     /// Whether no option takes memory.
     const FREE: bool;

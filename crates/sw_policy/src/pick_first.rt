@@ -83,7 +83,7 @@ impl<T: Meant, A: DeserializeAs<T>, B: DeserializeAs<T>> DeserializeAs<T> for Pi
     ghost use Rattle.sw_elem.specs.Equations.{own_spot};
     ghost use Rattle.sw_policy.specs.Options.{reader};
     ghost use Rattle.sw_policy.specs.PickFirst.{pick_reads, pick_skips};
-    ghost use Rattle.sw_policy.specs.PickFirstLaws.{pick_lawful};
+    ghost use Rattle.sw_policy.specs.Laws.PickFirst.{pick_lawful};
 
     const FREE: bool = A::FREE && B::FREE;
 
@@ -127,7 +127,7 @@ impl<T: Meant, A: DeserializeAs<T>, B: DeserializeAs<T>, C: DeserializeAs<T>> De
     ghost use Rattle.sw_elem.specs.Equations.{own_spot};
     ghost use Rattle.sw_policy.specs.Options.{reader};
     ghost use Rattle.sw_policy.specs.PickFirst.{pick_reads, pick_skips};
-    ghost use Rattle.sw_policy.specs.PickFirstLaws.{pick_lawful};
+    ghost use Rattle.sw_policy.specs.Laws.PickFirst.{pick_lawful};
 
     const FREE: bool = A::FREE && B::FREE && C::FREE;
 
@@ -181,7 +181,7 @@ impl<
     ghost use Rattle.sw_elem.specs.Equations.{own_spot};
     ghost use Rattle.sw_policy.specs.Options.{reader};
     ghost use Rattle.sw_policy.specs.PickFirst.{pick_reads, pick_skips};
-    ghost use Rattle.sw_policy.specs.PickFirstLaws.{pick_lawful};
+    ghost use Rattle.sw_policy.specs.Laws.PickFirst.{pick_lawful};
 
     const FREE: bool = A::FREE && B::FREE && C::FREE && D::FREE;
 
@@ -208,7 +208,7 @@ impl<
 /// The choice of one is as faithful as that option.
 impl<T: Meant, A: Adapter<T>> Adapter<T> for PickFirst<(A,)> {
     ghost use Rattle.sw_check.specs.Form.{pick_first, no_forms};
-    ghost use Rattle.sw_policy.specs.PickFirstKeeps.{pick_one_keeps};
+    ghost use Rattle.sw_policy.specs.Laws.PickFirst.{pick_one_keeps};
 
     ghost expr = { pick_first A.expr no_forms };
 
@@ -228,7 +228,8 @@ impl<T: Meant, A: Adapter<T>> Adapter<T> for PickFirst<(A,)> {
 impl<T: Meant, A: Adapter<T>, B: Adapter<T>> Adapter<T> for PickFirst<(A, B)> {
     ghost use Rattle.std.specs.Prelude.{[], ◌∷◌};
     ghost use Rattle.sw_check.specs.Form.{pick_first, forms};
-    ghost use Rattle.sw_policy.specs.PickFirstKeeps.{pick_norm, pick_two_keeps};
+    ghost use Rattle.sw_policy.specs.PickFirst.{pick_norm};
+    ghost use Rattle.sw_policy.specs.Laws.PickFirst.{pick_two_keeps};
 
     ghost expr = { pick_first A.expr (forms (B.expr ∷ [])) };
 
@@ -249,7 +250,8 @@ impl<T: Meant, A: Adapter<T>, B: Adapter<T>> Adapter<T> for PickFirst<(A, B)> {
 impl<T: Meant, A: Adapter<T>, B: Adapter<T>, C: Adapter<T>> Adapter<T> for PickFirst<(A, B, C)> {
     ghost use Rattle.std.specs.Prelude.{[], ◌∷◌};
     ghost use Rattle.sw_check.specs.Form.{pick_first, forms};
-    ghost use Rattle.sw_policy.specs.PickFirstKeeps.{pick_norm, pick_three_keeps};
+    ghost use Rattle.sw_policy.specs.PickFirst.{pick_norm};
+    ghost use Rattle.sw_policy.specs.Laws.PickFirst.{pick_three_keeps};
 
     ghost expr = { pick_first A.expr (forms (B.expr ∷ C.expr ∷ [])) };
 
@@ -272,7 +274,8 @@ impl<T: Meant, A: Adapter<T>, B: Adapter<T>, C: Adapter<T>, D: Adapter<T>> Adapt
     for PickFirst<(A, B, C, D)> {
     ghost use Rattle.std.specs.Prelude.{[], ◌∷◌};
     ghost use Rattle.sw_check.specs.Form.{pick_first, forms};
-    ghost use Rattle.sw_policy.specs.PickFirstKeeps.{pick_norm, pick_four_keeps};
+    ghost use Rattle.sw_policy.specs.PickFirst.{pick_norm};
+    ghost use Rattle.sw_policy.specs.Laws.PickFirst.{pick_four_keeps};
 
     ghost expr = { pick_first A.expr (forms (B.expr ∷ C.expr ∷ D.expr ∷ [])) };
 

@@ -17,10 +17,10 @@ use Rattle.sw_elem.specs.Truths.{truth_writes, truth_reads}
 use Rattle.sw_elem.specs.Foreign.{any_reads, any_spot, any_writes}
 use Rattle.sw_elem.specs.Equations.{Writes, Reads, Spots, Skips, own_spot, no_skips}
 use Rattle.sw_core.specs.Display.{display_writes, display_reads}
-use Rattle.sw_core.specs.Lists.{list_writes, list_reads, list_spot, list_skips}
+use Rattle.sw_core.specs.Entries.{entries_writes, entries_reads, entries_spot, entries_skips}
 use Rattle.sw_core.specs.Recoding.{answer, skipped}
+use Rattle.sw_core.specs.Vec.{list_writes, list_reads, list_spot, list_skips}
 use Rattle.sw_core.specs.declared.recode.RecodeError.{RecodeError}
-use Rattle.sw_pairs.specs.Maps.{map_writes, map_reads, map_spot, map_skips}
 use Rattle.sw_policy.specs.Options.{Reader, reader}
 use Rattle.sw_policy.specs.PickFirst.{pick_reads, pick_skips}
 use Rattle.sw_policy.specs.OneOrMany.{one_or_many_writes, one_or_many_reads, one_or_many_skips}
@@ -74,17 +74,23 @@ aside_options = reader (below (2 ^ 32)) no_skips ∷ reader (below (2 ^ 32)) no_
 
 -- a list of numbers below 2^8
 abbrev octets_reads : Reads
-octets_reads = list_reads (below (2 ^ 8))
+octets_reads = list_reads (below (2 ^ 8)) own_spot no_skips
+
+abbrev octets_spot : Spots
+octets_spot = list_spot (below (2 ^ 8)) own_spot no_skips
 
 abbrev octets_skips : Skips
-octets_skips = list_skips (below (2 ^ 8)) no_skips
+octets_skips = list_skips (below (2 ^ 8)) own_spot no_skips
 
 -- a map with a text for each key
 abbrev texts_reads : Reads
-texts_reads = map_reads text_reads any_reads
+texts_reads = entries_reads text_reads own_spot no_skips any_reads any_spot no_skips
+
+abbrev texts_spot : Spots
+texts_spot = entries_spot text_reads own_spot no_skips any_reads any_spot no_skips
 
 abbrev texts_skips : Skips
-texts_skips = map_skips text_reads no_skips any_reads no_skips
+texts_skips = entries_skips text_reads own_spot no_skips any_reads any_spot no_skips
 
 abbrev number : Form
 number = leaf number_facts
@@ -93,23 +99,27 @@ abbrev text : Form
 text = leaf text_facts
 
 abbrev pub nest_of : Profile → Nest
-nest_of Ids = nest (list_reads id_reads) (list_spot id_reads own_spot) (list_skips id_reads no_skips) (list_writes (display_writes decimal_shows)) (vec text)
+nest_of Ids =
+    nest (list_reads id_reads own_spot no_skips) (list_spot id_reads own_spot no_skips) (list_skips id_reads own_spot no_skips) (list_writes (display_writes decimal_shows)) (vec text)
 nest_of Any = nest any_reads any_spot no_skips any_writes (leaf any_facts)
 nest_of Table =
-    nest (map_reads key_reads octets_reads) (map_spot key_reads own_spot octets_reads (list_spot (below (2 ^ 8)) own_spot)) (map_skips key_reads no_skips octets_reads octets_skips)
-    (map_writes (display_writes decimal_shows) (list_writes number_writes)) (map text (vec number))
+    nest (entries_reads key_reads own_spot no_skips octets_reads octets_spot octets_skips) (entries_spot key_reads own_spot no_skips octets_reads octets_spot octets_skips)
+    (entries_skips key_reads own_spot no_skips octets_reads octets_spot octets_skips) (entries_writes (display_writes decimal_shows) (list_writes number_writes)) (map text (vec number))
 nest_of Flex =
-    nest (list_reads (pick_reads flex_options)) (list_spot (pick_reads flex_options) own_spot) (list_skips (pick_reads flex_options) (pick_skips flex_options))
-    (list_writes number_writes) (vec (pick_first number (form text no_forms)))
-nest_of Names = nest (one_or_many_reads text_reads no_skips) own_spot (one_or_many_skips text_reads no_skips) (one_or_many_writes true text_writes) (one_or_many text)
+    let reads = pick_reads flex_options in
+    let skips = pick_skips flex_options in
+    nest (list_reads reads own_spot skips) (list_spot reads own_spot skips) (list_skips reads own_spot skips) (list_writes number_writes) (vec (pick_first number (form text no_forms)))
+nest_of Names = nest (one_or_many_reads text_reads own_spot no_skips) own_spot (one_or_many_skips text_reads own_spot no_skips) (one_or_many_writes true text_writes) (one_or_many text)
 nest_of Lists =
-    nest (one_or_many_reads octets_reads octets_skips) own_spot (one_or_many_skips octets_reads octets_skips) (one_or_many_writes true (list_writes number_writes)) (one_or_many (vec number))
+    nest (one_or_many_reads octets_reads octets_spot octets_skips) own_spot (one_or_many_skips octets_reads octets_spot octets_skips) (one_or_many_writes true (list_writes number_writes))
+    (one_or_many (vec number))
 nest_of Keys =
-    nest (map_reads (pick_reads aside_options) truth_reads) (map_spot (pick_reads aside_options) own_spot truth_reads own_spot)
-    (map_skips (pick_reads aside_options) (pick_skips aside_options) truth_reads no_skips) (map_writes number_writes truth_writes)
-    (map (pick_first number (form number no_forms)) (leaf truth_facts))
+    let reads = pick_reads aside_options in
+    let skips = pick_skips aside_options in
+    nest (entries_reads reads own_spot skips truth_reads own_spot no_skips) (entries_spot reads own_spot skips truth_reads own_spot no_skips) (entries_skips reads own_spot skips truth_reads own_spot no_skips)
+    (entries_writes number_writes truth_writes) (map (pick_first number (form number no_forms)) (leaf truth_facts))
 nest_of Wrap =
-    nest (one_or_many_reads texts_reads texts_skips) own_spot (one_or_many_skips texts_reads texts_skips) (one_or_many_writes false (map_writes text_writes any_writes))
+    nest (one_or_many_reads texts_reads texts_spot texts_skips) own_spot (one_or_many_skips texts_reads texts_spot texts_skips) (one_or_many_writes false (entries_writes text_writes any_writes))
     (one_or_many (map text (leaf any_facts)))
 
 -- what is blamed in the nest, where a JSON text is recoded

@@ -3,7 +3,7 @@ use Rattle.sw_tree.specs.View.{seen}
 use Rattle.sw_tree.specs.Mode.{plain}
 use Rattle.sw_tree.specs.Tree.{Tree}
 use Rattle.sw_tree.specs.Wires.{printed}
-use Rattle.sw_core.specs.Printing.{printed_as}
+use Rattle.sw_core.specs.Inner.Printing.{printed_as}
 use Rattle.sw_core.specs.Recoding.{skipped}
 use Rattle.sw_core.proofs.Recoding.{wire_noted, write_noted, log_skipped}
 use Rattle.sw_core.proofs.Again.{spells_image, again, again_same, settled, never_unprinted, written_plain, written_text, never_keyed, text_never_key}

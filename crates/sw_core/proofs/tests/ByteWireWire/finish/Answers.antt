@@ -1,7 +1,7 @@
 use Rattle.std.proofs.Common.{◌≡◌, Some, Result, Ok, Err, IfOk, subst}
 use Rattle.sw_tree.specs.Short.{IsShort}
 use Rattle.sw_tree.specs.Wires.{IsPrinted}
-use Rattle.sw_core.specs.ByteWire.{byte_text}
+use Rattle.sw_core.specs.Inner.ByteWire.{byte_text}
 use Rattle.sw_core.proofs.tests.ByteWireWire.finish.Goals as goal
 
 always : {A E P : Type 0} (r : Result A E) → P → IfOk r (λ x. P)

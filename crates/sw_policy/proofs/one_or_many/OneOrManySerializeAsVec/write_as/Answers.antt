@@ -1,7 +1,7 @@
 use Rattle.std.proofs.Common.{◌≡◌, List, length, subst, sym, ap, ◌∙◌}
 use Rattle.sw_tree.specs.Meant.{list_meaning}
 use Rattle.sw_tree.specs.Building.{IsPut}
-use Rattle.sw_core.specs.Lists.{list_writes}
+use Rattle.sw_core.specs.Vec.{list_writes}
 use Rattle.sw_policy.specs.OneOrMany.{one_or_many_writes}
 use Rattle.sw_policy.proofs.Forms.{many_written, list_written}
 use Rattle.sw_policy.proofs.one_or_many.OneOrManySerializeAsVec.write_as.Goals as goal

@@ -1,0 +1,12 @@
+-- What follows from the definitions, with the proofs. No definition stands on these.
+pub mod Nodes
+pub mod Rows
+pub mod Plans
+pub mod Places
+pub mod Each
+pub mod Within
+pub mod Images
+pub mod Vec
+pub mod Entries
+pub mod Display
+pub mod Again

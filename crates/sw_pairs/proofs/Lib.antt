@@ -1,4 +1,0 @@
-pub mod Logs
-pub mod Entries
-pub mod Maps
-pub mod Putting

@@ -1,0 +1,3 @@
+-- What follows from the definitions, with the proofs. No definition stands on these.
+pub mod PickFirst
+pub mod OneOrMany
