@@ -8,6 +8,7 @@ mod log;
 mod memory;
 mod names;
 mod nest;
+mod nests;
 mod outcome;
 mod output;
 mod path;

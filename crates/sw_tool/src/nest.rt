@@ -22,13 +22,21 @@ use sw_tree::fail::Refusal;
 use sw_tree::meant::Meant;
 use sw_tree::skipped::Skipped;
 
-/// The token of the nest `A` of `T`, or what is blamed in it.
-pub(crate) fn vet<T: Meant, A: Adapter<T>>(
-    alloc: Global,
-) -> Result<Faithful<A, T, JsonWire>, Outcome>
-    ensures { IsVetted result (blame A.expr (plain Json)) }
+/// A nest of adapters with the type of its values.
+pub(crate) trait Nest {
+    type Value: Meant;
+
+    type Adapter: Adapter<Self::Value>;
+}
+
+/// What stands for a sound nest over JSON.
+pub(crate) type Token<N> = Faithful<<N as Nest>::Adapter, <N as Nest>::Value, JsonWire>;
+
+/// The token of the nest, or what is blamed in it.
+pub(crate) fn vet<N: Nest>(alloc: Global) -> Result<Token<N>, Outcome>
+    ensures { IsVetted result (blame N.Adapter.expr (plain Json)) }
 {
-    match faithful::<A, T, JsonWire>(alloc) {
+    match faithful::<N::Adapter, N::Value, JsonWire>(alloc) {
         Ok(token) => Ok(token),
         Err(CheckFail::Blame(blame)) => Err(blamed(alloc, blame)),
         Err(CheckFail::Memory) => Err(Outcome::Memory),
@@ -45,17 +53,17 @@ fn blamed(alloc: Global, blame: Blame) -> Outcome
     }
 }
 
-/// The JSON text of the value of type `T` that the bytes mean to the nest `A`, with the text of the log of
-/// what was passed over; or why there is none.
-pub(crate) fn convert<T: Meant, A: Adapter<T>>(
+/// The JSON text of the value that the bytes mean to the nest, with the text of the log of what was passed
+/// over; or why there is none.
+pub(crate) fn convert<N: Nest>(
     alloc: Global,
-    token: &Faithful<A, T, JsonWire>,
+    token: &Token<N>,
     bytes: &[u8],
 ) -> Result<(Vec<u8>, String), Outcome>
-    ensures { IsConverted result (json_answer A.reads A.spot A.writes bytes.now) (json_log A.skips bytes.now) bytes.now }
+    ensures { IsConverted result (json_answer N.Adapter.reads N.Adapter.spot N.Adapter.writes bytes.now) (json_log N.Adapter.skips bytes.now) bytes.now }
 {
     let mut log = Skipped::new(alloc);
-    match As::<A>::recode::<T, JsonWire>(alloc, token, &mut log, bytes) {
+    match As::<N::Adapter>::recode::<N::Value, JsonWire>(alloc, token, &mut log, bytes) {
         Ok((_, text)) => match log_text(alloc, bytes, log.notes()) {
             Ok(told) => Ok((text, told)),
             Err(_) => Err(Outcome::Memory),

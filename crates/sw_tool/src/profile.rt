@@ -13,20 +13,17 @@ ghost use Rattle.sw_tool.specs.Writing.{line};
 use crate::command::Profile;
 use crate::input::{ReadFail, read_all};
 use crate::names::grade_name;
-use crate::nest::{convert, vet};
+use crate::nest::{Nest, convert, vet};
+use crate::nests::{
+    AsItStands, AsideKeys, ByteTable, Flexible, NumberTexts, OneOrManyLists, OneOrManyMaps,
+    OneOrManyTexts,
+};
 use crate::outcome::Outcome;
 use crate::output::write_line;
 use crate::sink::Sink;
 use crate::source::Source;
 use std::alloc::Global;
-use sw_core::adapter::Adapter;
-use sw_core::display::DisplayFromStr;
-use sw_core::formats::{PreferMany, PreferOne};
-use sw_core::same::Same;
 use sw_elem::any::Any;
-use sw_pairs::Map;
-use sw_policy::{OneOrMany, PickFirst};
-use sw_tree::meant::Meant;
 
 /// Recodes what the source gives through the profile's nest, into the sink. Where the nest isn't sound,
 /// neither is touched.
@@ -43,32 +40,14 @@ pub(crate) fn recode<S: Source, K: Sink>(
     ensures untouched { blame_of profile ≢ None → (source.new ≡ source.old) × (sink.new ≡ sink.old) }
 {
     match profile {
-        Profile::Ids => recode_by::<Vec<u32>, Vec<DisplayFromStr>, S, K>(alloc, source, sink),
-        Profile::Any => recode_by::<Any, Same, S, K>(alloc, source, sink),
-        Profile::Table => {
-            recode_by::<Vec<(i32, Vec<u8>)>, Map<DisplayFromStr, Vec<Same>>, S, K>(
-                alloc, source, sink,
-            )
-        }
-        Profile::Flex => {
-            recode_by::<Vec<u32>, Vec<PickFirst<(Same, DisplayFromStr)>>, S, K>(alloc, source, sink)
-        }
-        Profile::Names => {
-            recode_by::<Vec<String>, OneOrMany<Same, PreferOne>, S, K>(alloc, source, sink)
-        }
-        Profile::Lists => {
-            recode_by::<Vec<Vec<u8>>, OneOrMany<Vec<Same>, PreferOne>, S, K>(alloc, source, sink)
-        }
-        Profile::Keys => {
-            recode_by::<Vec<(u32, bool)>, Map<PickFirst<(Same, Same)>, Same>, S, K>(
-                alloc, source, sink,
-            )
-        }
-        Profile::Wrap => {
-            recode_by::<Vec<Vec<(String, Any)>>, OneOrMany<Map<Same, Same>, PreferMany>, S, K>(
-                alloc, source, sink,
-            )
-        }
+        Profile::Ids => recode_by::<NumberTexts, S, K>(alloc, source, sink),
+        Profile::Any => recode_by::<AsItStands<Any>, S, K>(alloc, source, sink),
+        Profile::Table => recode_by::<ByteTable, S, K>(alloc, source, sink),
+        Profile::Flex => recode_by::<Flexible, S, K>(alloc, source, sink),
+        Profile::Names => recode_by::<OneOrManyTexts, S, K>(alloc, source, sink),
+        Profile::Lists => recode_by::<OneOrManyLists, S, K>(alloc, source, sink),
+        Profile::Keys => recode_by::<AsideKeys, S, K>(alloc, source, sink),
+        Profile::Wrap => recode_by::<OneOrManyMaps, S, K>(alloc, source, sink),
     }
 }
 
@@ -79,47 +58,31 @@ pub(crate) fn check<K: Sink>(alloc: Global, profile: Profile, sink: &mut K) -> O
         Graded result to (blame_of profile) (grade_of profile) }
 {
     match profile {
-        Profile::Ids => check_by::<Vec<u32>, Vec<DisplayFromStr>, K>(alloc, sink),
-        Profile::Any => check_by::<Any, Same, K>(alloc, sink),
-        Profile::Table => {
-            check_by::<Vec<(i32, Vec<u8>)>, Map<DisplayFromStr, Vec<Same>>, K>(alloc, sink)
-        }
-        Profile::Flex => {
-            check_by::<Vec<u32>, Vec<PickFirst<(Same, DisplayFromStr)>>, K>(alloc, sink)
-        }
-        Profile::Names => check_by::<Vec<String>, OneOrMany<Same, PreferOne>, K>(alloc, sink),
-        Profile::Lists => {
-            check_by::<Vec<Vec<u8>>, OneOrMany<Vec<Same>, PreferOne>, K>(alloc, sink)
-        }
-        Profile::Keys => {
-            check_by::<Vec<(u32, bool)>, Map<PickFirst<(Same, Same)>, Same>, K>(alloc, sink)
-        }
-        Profile::Wrap => {
-            check_by::<Vec<Vec<(String, Any)>>, OneOrMany<Map<Same, Same>, PreferMany>, K>(
-                alloc, sink,
-            )
-        }
+        Profile::Ids => check_by::<NumberTexts, K>(alloc, sink),
+        Profile::Any => check_by::<AsItStands<Any>, K>(alloc, sink),
+        Profile::Table => check_by::<ByteTable, K>(alloc, sink),
+        Profile::Flex => check_by::<Flexible, K>(alloc, sink),
+        Profile::Names => check_by::<OneOrManyTexts, K>(alloc, sink),
+        Profile::Lists => check_by::<OneOrManyLists, K>(alloc, sink),
+        Profile::Keys => check_by::<AsideKeys, K>(alloc, sink),
+        Profile::Wrap => check_by::<OneOrManyMaps, K>(alloc, sink),
     }
 }
 
-/// Recodes by the nest `A` of `T`: asks for its token, reads the source to its end, and writes what the
+/// Recodes by the nest: asks for its token, reads the source to its end, and writes what the
 /// nest makes of the text.
-fn recode_by<T: Meant, A: Adapter<T>, S: Source, K: Sink>(
-    alloc: Global,
-    source: &mut S,
-    sink: &mut K,
-) -> Outcome
+fn recode_by<N: Nest, S: Source, K: Sink>(alloc: Global, source: &mut S, sink: &mut K) -> Outcome
     ensures recoded { let from : Change = record { old = S.left source.old; new = S.left source.new; before = S.faults source.old; after = S.faults source.new } in
         let to : Change = record { old = K.taken sink.old; new = K.taken sink.new; before = K.faults sink.old; after = K.faults sink.new } in
-        Recoded result from to (blame A.expr (plain Json)) (json_answer A.reads A.spot A.writes) (json_log A.skips) }
-    ensures untouched { blame A.expr (plain Json) ≢ None → (source.new ≡ source.old) × (sink.new ≡ sink.old) }
+        Recoded result from to (blame N.Adapter.expr (plain Json)) (json_answer N.Adapter.reads N.Adapter.spot N.Adapter.writes) (json_log N.Adapter.skips) }
+    ensures untouched { blame N.Adapter.expr (plain Json) ≢ None → (source.new ≡ source.old) × (sink.new ≡ sink.old) }
 {
-    let token = match vet::<T, A>(alloc) {
+    let token = match vet::<N>(alloc) {
         Ok(token) => token,
         Err(outcome) => return outcome,
     };
     match read_all(alloc, source) {
-        Ok(bytes) => match convert::<T, A>(alloc, &token, bytes.as_slice()) {
+        Ok(bytes) => match convert::<N>(alloc, &token, bytes.as_slice()) {
             Ok((text, log)) => put(sink, text.as_slice(), log),
             Err(outcome) => outcome,
         },
@@ -129,12 +92,12 @@ fn recode_by<T: Meant, A: Adapter<T>, S: Source, K: Sink>(
     }
 }
 
-/// Writes the grade of the nest `A` of `T`.
-fn check_by<T: Meant, A: Adapter<T>, K: Sink>(alloc: Global, sink: &mut K) -> Outcome
+/// Writes the grade of the nest.
+fn check_by<N: Nest, K: Sink>(alloc: Global, sink: &mut K) -> Outcome
     ensures { let to : Change = record { old = K.taken sink.old; new = K.taken sink.new; before = K.faults sink.old; after = K.faults sink.new } in
-        Graded result to (blame A.expr (plain Json)) (grade A.expr (plain Json)) }
+        Graded result to (blame N.Adapter.expr (plain Json)) (grade N.Adapter.expr (plain Json)) }
 {
-    match vet::<T, A>(alloc) {
+    match vet::<N>(alloc) {
         Ok(token) => put(
             sink,
             grade_name(token.grade()).as_bytes(),
