@@ -7,7 +7,7 @@ use Rattle.std.proofs.lemmas.Grind.{flat_map-append}
 use Rattle.std.proofs.Math.Seq.{take-append-add, drop-cons}
 use Rattle.sw_tool.specs.Faults.{HasRisen}
 use Rattle.sw_tool.specs.Change.{Change}
-use Rattle.sw_tool.specs.Writing.{GainsFront, Writes, Notes}
+use Rattle.sw_tool.specs.Output.{GainsFront, Writes, Notes}
 use Rattle.sw_tool.specs.declared.source.Failed.{Failed}
 
 append_twice : (known : Option (List ℕ)) (xs ys : List ℕ) → append_known (append_known known xs) ys ≡ append_known known (xs ++ ys)

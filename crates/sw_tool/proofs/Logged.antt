@@ -21,9 +21,9 @@ use Rattle.sw_elem.specs.Laws.{HasNoteKinds}
 use Rattle.sw_core.specs.Recoding.{found, noted}
 use Rattle.sw_json.specs.Spelled.{spelled}
 use Rattle.sw_tool.specs.Log.{Entry, entry_text, heading, log_text, IsLogText}
-use Rattle.sw_tool.specs.Paths.{HasNode, IsPathIn, IsPathTo}
-use Rattle.sw_tool.specs.Profiles.{json_answer, json_log}
-use Rattle.sw_tool.specs.Telling.{IsTold, GainsEntry}
+use Rattle.sw_tool.specs.Path.{HasNode, IsPathIn, IsPathTo}
+use Rattle.sw_tool.specs.Nests.{json_answer, json_log}
+use Rattle.sw_tool.specs.Inner.Log.{IsTold, GainsEntry}
 
 noted_nodes : (bytes : List ℕ) (t : Tree) (ns : List Note) → spelled bytes ≡ Ok t → Each (IsNoteIn (kinds t)) ns → Each (λ (r : Refusal). HasNode bytes r.place) (noted ns)
 noted_nodes bytes t [] e h = tt

@@ -4,8 +4,8 @@ use Rattle.sw_tree.specs.Fail.{kind_of_error}
 use Rattle.sw_tree.specs.Steps.{Each}
 use Rattle.sw_tree.specs.declared.fail.Refusal.{Refusal}
 use Rattle.sw_tool.specs.Names.{kind_name}
-use Rattle.sw_tool.specs.Paths.{IsPathTo}
-use Rattle.sw_tool.specs.Writing.{line}
+use Rattle.sw_tool.specs.Path.{IsPathTo}
+use Rattle.sw_tool.specs.Output.{line}
 
 -- a refusal that was passed over, and a path
 pub record Entry : Type 0 where

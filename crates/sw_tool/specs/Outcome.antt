@@ -2,7 +2,7 @@
 use Rattle.std.specs.Prelude.{ℕ, List, [], ◌∷◌, codes, decimal, string_bytes}
 use Rattle.sw_tool.specs.Log.{skipped_line}
 use Rattle.sw_tool.specs.Names.{kind_name, reason_name, rule_name}
-use Rattle.sw_tool.specs.Writing.{line}
+use Rattle.sw_tool.specs.Output.{line}
 use Rattle.sw_tool.specs.declared.outcome.Outcome.{Outcome}
 use Rattle.sw_tool.specs.declared.outcome.Outcome.TheVariants as outcome
 use Rattle.sw_tool.specs.declared.status.Status.{Status}

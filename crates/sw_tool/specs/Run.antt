@@ -2,10 +2,10 @@
 use Rattle.std.specs.Prelude.{ℕ, ◌≡◌, List, Option, Some, None}
 use Rattle.sw_tool.specs.Change.{Change, Kept}
 use Rattle.sw_tool.specs.Command.{command_in}
-use Rattle.sw_tool.specs.Comes.{Recoded, Graded}
+use Rattle.sw_tool.specs.Nest.{Recoded, Graded}
 use Rattle.sw_tool.specs.Outcome.{status_of, line_of}
-use Rattle.sw_tool.specs.Profiles.{blame_of, grade_of, answer_of, log_of}
-use Rattle.sw_tool.specs.Writing.{Notes}
+use Rattle.sw_tool.specs.Nests.{blame_of, grade_of, answer_of, log_of}
+use Rattle.sw_tool.specs.Output.{Notes}
 use Rattle.sw_tool.specs.declared.command.Command.{Command}
 use Rattle.sw_tool.specs.declared.command.Command.TheVariants.{Recode, Check}
 use Rattle.sw_tool.specs.declared.command.Profile.{Profile}

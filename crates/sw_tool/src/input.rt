@@ -1,6 +1,6 @@
 ghost use Rattle.std.specs.Prelude.{◌≡◌, IfOk, vec_len};
 ghost use Rattle.sw_tool.specs.Change.{Change};
-ghost use Rattle.sw_tool.specs.Reading.{Gives, IsReadAs};
+ghost use Rattle.sw_tool.specs.Input.{Gives, IsReadAs};
 
 use crate::source::{Failed, Source};
 use std::alloc::{AllocError, Global};

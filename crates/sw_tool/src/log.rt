@@ -5,8 +5,8 @@ ghost use Rattle.sw_tree.specs.Path.{HasPlace};
 ghost use Rattle.sw_tree.specs.Steps.{Each};
 ghost use Rattle.sw_tree.specs.View.{seen};
 ghost use Rattle.sw_tool.specs.Log.{heading, IsLogText};
-ghost use Rattle.sw_tool.specs.Paths.{HasNode, IsPathIn};
-ghost use Rattle.sw_tool.specs.Telling.{IsTold, GainsEntry};
+ghost use Rattle.sw_tool.specs.Path.{HasNode, IsPathIn};
+ghost use Rattle.sw_tool.specs.Inner.Log.{IsTold, GainsEntry};
 
 use crate::names::kind_name;
 use crate::path::{path_in, read_again};

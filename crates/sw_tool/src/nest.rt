@@ -3,9 +3,9 @@
 ghost use Rattle.sw_tree.specs.Mode.{plain};
 ghost use Rattle.sw_tree.specs.declared.mode.WireKind.TheVariants.{Json};
 ghost use Rattle.sw_check.specs.Blame.{blame};
-ghost use Rattle.sw_tool.specs.Comes.{IsVetted, Blames, IsConverted, IsTraced};
-ghost use Rattle.sw_tool.specs.Paths.{HasNode};
-ghost use Rattle.sw_tool.specs.Profiles.{json_answer, json_log};
+ghost use Rattle.sw_tool.specs.Nest.{IsVetted, Blames, IsConverted, IsTraced};
+ghost use Rattle.sw_tool.specs.Path.{HasNode};
+ghost use Rattle.sw_tool.specs.Nests.{json_answer, json_log};
 
 use crate::log::log_text;
 use crate::outcome::Outcome;

@@ -1,5 +1,5 @@
 ghost use Rattle.std.specs.Prelude.{map, flat_map};
-ghost use Rattle.sw_tool.specs.Writing.{Writes, line};
+ghost use Rattle.sw_tool.specs.Output.{Writes, line};
 
 use crate::sink::Sink;
 use crate::source::Failed;

@@ -4,7 +4,7 @@ ghost use Rattle.std.specs.Prelude.{◌≡◌, true, Ok, IfOk, is_ok, string_byt
 ghost use Rattle.sw_tree.specs.Path.{HasPlace};
 ghost use Rattle.sw_tree.specs.View.{seen};
 ghost use Rattle.sw_json.specs.Spelled.{spelled};
-ghost use Rattle.sw_tool.specs.Paths.{HasNode, IsPathIn, IsPathTo};
+ghost use Rattle.sw_tool.specs.Path.{HasNode, IsPathIn, IsPathTo};
 
 use std::alloc::{AllocError, Global};
 use sw_json::JsonWire;

@@ -6,9 +6,9 @@ ghost use Rattle.sw_tree.specs.declared.mode.WireKind.TheVariants.{Json};
 ghost use Rattle.sw_check.specs.Blame.{blame};
 ghost use Rattle.sw_check.specs.Grade.{grade};
 ghost use Rattle.sw_tool.specs.Change.{Change};
-ghost use Rattle.sw_tool.specs.Comes.{Recoded, Graded, IsPut};
-ghost use Rattle.sw_tool.specs.Profiles.{blame_of, grade_of, answer_of, log_of, json_answer, json_log};
-ghost use Rattle.sw_tool.specs.Writing.{line};
+ghost use Rattle.sw_tool.specs.Nest.{Recoded, Graded, IsPut};
+ghost use Rattle.sw_tool.specs.Nests.{blame_of, grade_of, answer_of, log_of, json_answer, json_log};
+ghost use Rattle.sw_tool.specs.Output.{line};
 
 use crate::command::Profile;
 use crate::input::{ReadFail, read_all};
@@ -27,7 +27,7 @@ use sw_elem::any::Any;
 
 /// Recodes what the source gives through the profile's nest, into the sink. Where the nest isn't sound,
 /// neither is touched.
-#[tactic(auto, unfolding(crate::specs::Profiles::answer_of, crate::specs::Profiles::log_of, crate::specs::Profiles::blame_of))]
+#[tactic(auto, unfolding(crate::specs::Nests::answer_of, crate::specs::Nests::log_of, crate::specs::Nests::blame_of))]
 pub(crate) fn recode<S: Source, K: Sink>(
     alloc: Global,
     profile: Profile,
@@ -52,7 +52,7 @@ pub(crate) fn recode<S: Source, K: Sink>(
 }
 
 /// Writes how faithful the profile's nest is.
-#[tactic(auto, unfolding(crate::specs::Profiles::grade_of, crate::specs::Profiles::blame_of))]
+#[tactic(auto, unfolding(crate::specs::Nests::grade_of, crate::specs::Nests::blame_of))]
 pub(crate) fn check<K: Sink>(alloc: Global, profile: Profile, sink: &mut K) -> Outcome
     ensures { let to : Change = record { old = K.taken sink.old; new = K.taken sink.new; before = K.faults sink.old; after = K.faults sink.new } in
         Graded result to (blame_of profile) (grade_of profile) }

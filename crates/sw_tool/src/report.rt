@@ -1,7 +1,7 @@
 ghost use Rattle.std.specs.Prelude.{◌≡◌, [], ◌∷◌, map, codes, decimal};
 ghost use Rattle.sw_tool.specs.Log.{skipped_line};
 ghost use Rattle.sw_tool.specs.Outcome.{status_of, line_of};
-ghost use Rattle.sw_tool.specs.Writing.{Notes, line};
+ghost use Rattle.sw_tool.specs.Output.{Notes, line};
 
 use crate::names::{kind_name, reason_name, rule_name};
 use crate::outcome::Outcome;

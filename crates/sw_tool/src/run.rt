@@ -1,6 +1,6 @@
 ghost use Rattle.std.specs.Prelude.{◌≡◌, ◌≢◌, map, string_bytes, Some, None};
 ghost use Rattle.sw_tool.specs.Command.{command_in};
-ghost use Rattle.sw_tool.specs.Profiles.{blame_of};
+ghost use Rattle.sw_tool.specs.Nests.{blame_of};
 ghost use Rattle.sw_tool.specs.Run.{IsRun};
 ghost use Rattle.sw_tool.specs.declared.command.Profile.{Profile};
 ghost use Rattle.sw_tool.specs.declared.command.Command.TheVariants.{Recode};

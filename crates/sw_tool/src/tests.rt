@@ -1,5 +1,5 @@
 ghost use Rattle.std.specs.Prelude.{◌≡◌, true, IfOk};
-ghost use Rattle.sw_tool.specs.Paths.{HasNode};
+ghost use Rattle.sw_tool.specs.Path.{HasNode};
 
 use crate::input::LIMIT;
 use crate::log::log_text;

@@ -1,6 +1,6 @@
 use Rattle.std.proofs.Common.{◌≡◌, ◌-◌, ◌≤◌, ◌<◌, vec_len}
 use Rattle.std.specs.Io.KnownBytes.{prepend_known}
-use Rattle.sw_tool.specs.Reading.{limit}
+use Rattle.sw_tool.specs.Input.{limit}
 use Rattle.sw_tool.proofs.input.read_all.Given as goal
 
 abbrev pub invariant-loop-bytes : goal.invariant-loop-bytes

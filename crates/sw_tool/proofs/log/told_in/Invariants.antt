@@ -1,8 +1,8 @@
 use Rattle.std.proofs.Common.{length, take, string_bytes}
 use Rattle.sw_tree.specs.View.{seen}
 use Rattle.sw_tool.specs.Log.{heading}
-use Rattle.sw_tool.specs.Paths.{IsPathIn}
-use Rattle.sw_tool.specs.Telling.{IsTold}
+use Rattle.sw_tool.specs.Path.{IsPathIn}
+use Rattle.sw_tool.specs.Inner.Log.{IsTold}
 use Rattle.sw_tool.proofs.log.told_in.Given as goal
 
 abbrev pub invariant-loop-refusal : goal.invariant-loop-refusal

@@ -2,7 +2,7 @@ use Rattle.std.proofs.Common.{◌≡◌, List, ◌++◌, ap, ◌∙◌}
 use Rattle.sw_tree.specs.Mode.{plain}
 use Rattle.sw_tree.specs.declared.fail.Refusal.{Refusal}
 use Rattle.sw_tree.specs.declared.mode.WireKind.TheVariants.{Json}
-use Rattle.sw_tool.specs.Profiles.{json_log}
+use Rattle.sw_tool.specs.Nests.{json_log}
 use Rattle.sw_tool.proofs.Logged.{logged_nodes}
 use Rattle.sw_tool.proofs.nest.convert.Goals as goal
 

@@ -1,7 +1,7 @@
 use Rattle.std.proofs.Common.{take, drop, Ok, arith}
 use Rattle.std.proofs.lemmas.Grind.{common_steps}
 use Rattle.std.proofs.Math.Seq.{take-add}
-use Rattle.sw_tool.specs.Writing.{Writes}
+use Rattle.sw_tool.specs.Output.{Writes}
 use Rattle.sw_tool.proofs.Gained.{change, writes_on}
 use Rattle.sw_tool.proofs.output.write_all.Goals as goal
 

@@ -1,5 +1,5 @@
 use Rattle.std.proofs.Common.{◌-◌, ◌≤◌, length, take, Ok}
-use Rattle.sw_tool.specs.Writing.{Writes}
+use Rattle.sw_tool.specs.Output.{Writes}
 use Rattle.sw_tool.proofs.output.write_all.Given as goal
 
 abbrev pub invariant-loop-done : goal.invariant-loop-done

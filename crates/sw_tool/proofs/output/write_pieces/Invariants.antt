@@ -1,6 +1,6 @@
 use Rattle.std.proofs.Common.{ℕ, List, take, flat_map, Ok}
 use Rattle.std.specs.Borrow.{Bor}
-use Rattle.sw_tool.specs.Writing.{Writes}
+use Rattle.sw_tool.specs.Output.{Writes}
 use Rattle.sw_tool.proofs.output.write_pieces.Given as goal
 
 abbrev pub invariant-loop-piece : goal.invariant-loop-piece

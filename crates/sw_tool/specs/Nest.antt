@@ -12,10 +12,10 @@ use Rattle.sw_check.specs.declared.blame.Blame.{Blame}
 use Rattle.sw_check.specs.declared.grade.Grade.{Grade}
 use Rattle.sw_tool.specs.Log.{IsLogText}
 use Rattle.sw_tool.specs.Names.{grade_name}
-use Rattle.sw_tool.specs.Paths.{IsPathTo}
-use Rattle.sw_tool.specs.Reading.{limit, IsWhole, Gives}
-use Rattle.sw_tool.specs.Writing.{Gains, GainsFront, line}
-use Rattle.sw_tool.specs.Profiles.{Answer}
+use Rattle.sw_tool.specs.Path.{IsPathTo}
+use Rattle.sw_tool.specs.Input.{limit, IsWhole, Gives}
+use Rattle.sw_tool.specs.Output.{Gains, GainsFront, line}
+use Rattle.sw_tool.specs.Nests.{Answer}
 use Rattle.sw_tool.specs.declared.outcome.Outcome.{Outcome}
 use Rattle.sw_tool.specs.declared.outcome.Outcome.TheVariants as outcome
 
@@ -55,15 +55,15 @@ IsPut _ told sink output = ⊥
 
 -- what an outcome says of the bytes that the source gave, of the nest's answer to them and what it passed over in them, and of the sink;
 -- the last row is that of the outcomes for which the nest gives no text
-abbrev pub Comes : Outcome → Change → Change → List ℕ → Answer → List Refusal → Type 0
-Comes (outcome.Done told) source sink gave answer log = IsWhole source gave × IsOkAnd answer (λ p. Gains sink (line (p.1 ∷ []))) × IsLogText gave log (string_bytes told)
-Comes outcome.WriteFault source sink gave answer log = IsWhole source gave × IsOkAnd answer (λ p. GainsFront sink (line (p.1 ∷ [])) × HasRisen sink.before sink.after)
-Comes outcome.ReadFault source sink gave answer log = (length gave < limit) × HasRisen source.before source.after × Kept sink
-Comes outcome.TooLong source sink gave answer log = (length gave ≡ limit) × Kept sink
-Comes outcome.Memory source sink gave answer log = (length gave < limit) × Kept sink
-Comes outcome.Usage source sink gave answer log = ⊥
-Comes (outcome.Blamed rule path) source sink gave answer log = ⊥
-Comes o source sink gave answer log = IsWhole source gave × Fails o answer gave × Kept sink
+abbrev pub IsOutcomeOf : Outcome → Change → Change → List ℕ → Answer → List Refusal → Type 0
+IsOutcomeOf (outcome.Done told) source sink gave answer log = IsWhole source gave × IsOkAnd answer (λ p. Gains sink (line (p.1 ∷ []))) × IsLogText gave log (string_bytes told)
+IsOutcomeOf outcome.WriteFault source sink gave answer log = IsWhole source gave × IsOkAnd answer (λ p. GainsFront sink (line (p.1 ∷ [])) × HasRisen sink.before sink.after)
+IsOutcomeOf outcome.ReadFault source sink gave answer log = (length gave < limit) × HasRisen source.before source.after × Kept sink
+IsOutcomeOf outcome.TooLong source sink gave answer log = (length gave ≡ limit) × Kept sink
+IsOutcomeOf outcome.Memory source sink gave answer log = (length gave < limit) × Kept sink
+IsOutcomeOf outcome.Usage source sink gave answer log = ⊥
+IsOutcomeOf (outcome.Blamed rule path) source sink gave answer log = ⊥
+IsOutcomeOf o source sink gave answer log = IsWhole source gave × Fails o answer gave × Kept sink
 
 -- the rule of a blame and the text of its path, or want of memory
 abbrev pub Blames : Outcome → Blame → Type 0
@@ -89,7 +89,7 @@ IsVetted (Err o) found = IsUnsound o found
 -- Where the nest is blamed, nothing is read and nothing written; else the source gave some bytes, which the nest answers.
 abbrev pub Recoded : Outcome → Change → Change → Option Blame → (List ℕ → Answer) → (List ℕ → List Refusal) → Type 0
 Recoded o source sink (Some b) answer log = Blames o b × Kept source × Kept sink
-Recoded o source sink None answer log = Gives source (λ gave. Comes o source sink gave (answer gave) (log gave))
+Recoded o source sink None answer log = Gives source (λ gave. IsOutcomeOf o source sink gave (answer gave) (log gave))
 
 -- the grade's line was written whole and there is no log, or a front of the line, or nothing for want of memory
 abbrev IsGradePut : Outcome → Change → Grade → Type 0
