@@ -1,6 +1,7 @@
 pub mod Logs
 pub mod Rows
-pub mod AtPlaces
+pub mod Places
+pub mod Children
 pub mod Putting
 pub mod Recoding
 pub mod Again

@@ -1,38 +1,94 @@
--- Parts that are put in one after another.
-use Rattle.std.proofs.Common.{◌≡◌, List, [], ◌∷◌, map, Result, Ok, refl}
-use Rattle.sw_tree.specs.Building.{puts}
+-- Parts that are put in one after another make the list, or the map.
+use Rattle.std.proofs.Common.{◌≡◌, Bool, List, [], ◌∷◌, ◌++◌, map, false, Result, Ok, Err, refl, ap, sym, subst, ◌∙◌}
+use Rattle.std.specs.Result.{IsErrAnd}
+use Rattle.sw_tree.specs.Building.{puts, within, with_put, IsBuilt, IsPut, BuildsLists}
 use Rattle.sw_tree.specs.Meaning.{Meaning, meanings, parts}
-use Rattle.sw_tree.specs.Meant.{pair_meaning}
+use Rattle.sw_tree.specs.Meant.{list_meaning, pair_meaning}
+use Rattle.sw_tree.specs.Mode.{at_value}
 use Rattle.sw_tree.specs.Placed.{pair_of}
 use Rattle.sw_tree.specs.Steps.{bind, traverse}
-use Rattle.sw_tree.specs.Tree.{Tree, by_turns}
+use Rattle.sw_tree.specs.Tree.{Tree, trees, list}
+use Rattle.sw_tree.specs.declared.mode.Mode.{Mode}
 use Rattle.sw_tree.specs.declared.fail.SerError.{SerError}
+use Rattle.sw_tree.specs.declared.fail.SerFail.{SerFail}
+use Rattle.sw_tree.specs.declared.fail.SerFail.TheVariants as ser
+use Rattle.sw_elem.specs.Equations.{Writes}
 use Rattle.sw_core.specs.Entries.{pair_writes}
+use Rattle.sw_core.specs.Inner.Putting.{all_put, all_put_pairs}
+use Rattle.sw_core.specs.Vec.{list_writes}
 
-module _ {S : Type 0} (put : Tree → S → S) where
-  -- what is built once all the parts are put in, or the first refusal
-  abbrev pub all_put : {X : Type 0} → (X → Result Tree SerError) → List X → S → Result S SerError
-  all_put f xs s = bind (traverse f xs) (λ ts. Ok (puts put ts s))
+-- ---- lists
 
-  -- what is built once all the entries are put in, the key and the value of each by turns, or the first refusal
-  abbrev pub all_put_pairs : {X : Type 0} → (X → Result (Tree × Tree) SerError) → List X → S → Result S SerError
-  all_put_pairs f xs s = bind (traverse f xs) (λ es. Ok (puts put (by_turns es) s))
+values : {T : Type 0} (w : Meaning → Result Tree SerError) (f : T → Meaning) (xs : List T) → traverse w (parts (meanings (map f xs))) ≡ traverse (λ x. w (f x)) xs
+values w f [] = refl
+values w f (x ∷ xs) = rw (values w f xs) refl
 
-  -- a list that has been opened is written value by value
-  values : {T : Type 0} (w : Meaning → Result Tree SerError) (f : T → Meaning) (xs : List T) → traverse w (parts (meanings (map f xs))) ≡ traverse (λ x. w (f x)) xs
-  values w f [] = refl
-  values w f (x ∷ xs) = rw (values w f xs) refl
+not_put : {S : Type 0} (put : Tree → S → S) (s old : S) (x : Result (List Tree) SerError) (e : SerError) → bind x (λ ts. Ok (puts put ts s)) ≡ Err e → with_put put (bind x (λ ts. within (list (trees ts)))) old ≡ Err e
+not_put put s old (Ok ts) e h = absurd (cc)
+not_put put s old (Err d) e h = let same : d ≡ e = cc in ap (λ (z : SerError). Err z) same
 
-  pub list_opened : {T : Type 0} (w : Meaning → Result Tree SerError) (f : T → Meaning) (xs : List T) (s t : S) → ◌≡◌ {A = Result S SerError} (Ok s) (Ok t) →
-      all_put w (parts (meanings (map f xs))) s ≡ all_put (λ x. w (f x)) xs t
-  list_opened w f xs s t e = let same : s ≡ t = cc in rw (values w f xs, same) refl
+closed_on : {S : Type 0} (put : Tree → S → S) (closed : S → Result S SerError) (s old now : S) (x : Result (List Tree) SerError) → ((ts : List Tree) → closed (puts put ts s) ≡ with_put put (within (list (trees ts))) old) →
+    bind x (λ ts. Ok (puts put ts s)) ≡ Ok now → closed now ≡ with_put put (bind x (λ ts. within (list (trees ts)))) old
+closed_on put closed s old now (Ok ts) lists h = let same : puts put ts s ≡ now = cc in ap closed (sym same) ∙ lists ts
+closed_on put closed s old now (Err d) lists h = absurd (cc)
 
-  -- a map that has been opened is written pair by pair
-  pairs : {A B : Type 0} (k w : Meaning → Result Tree SerError) (f : A → Meaning) (g : B → Meaning) (xs : List (A × B)) →
-      traverse (pair_writes k w) (parts (meanings (map (pair_meaning f g) xs))) ≡ traverse (pair_of (λ x. k (f x)) (λ y. w (g y))) xs
-  pairs k w f g [] = refl
-  pairs k w f g (x ∷ xs) = rw (pairs k w f g xs) refl
+module _ {S T : Type 0} (put : Tree → S → S) (w : Writes) (f : T → Meaning) (m : Mode) where
+  -- the values are put in one by one
+  abbrev pub put_values : List T → S → Result S SerError
+  put_values xs s = all_put put (λ x. w (at_value m) (f x)) xs s
 
-  pub map_opened : {A B : Type 0} (k w : Meaning → Result Tree SerError) (f : A → Meaning) (g : B → Meaning) (xs : List (A × B)) (s t : S) → ◌≡◌ {A = Result S SerError} (Ok s) (Ok t) →
-      all_put_pairs (pair_writes k w) (parts (meanings (map (pair_meaning f g) xs))) s ≡ all_put_pairs (pair_of (λ x. k (f x)) (λ y. w (g y))) xs t
-  map_opened k w f g xs s t e = let same : s ≡ t = cc in rw (pairs k w f g xs, same) refl
+  refused_on : (xs : List T) (s old new : S) (e : SerFail) → IsBuilt (Err e) (put_values xs s) new → IsPut put (Err e) (list_writes w m (list_meaning f xs)) old new
+  refused_on xs s old new (ser.Unwritable e) h = rw (values (w (at_value m)) f xs) (not_put put s old (traverse (λ x. w (at_value m) (f x)) xs) e h)
+  refused_on xs s old new ser.Memory h = tt
+
+  -- why parts aren't put in is why the list isn't
+  pub list_refused : (xs : List T) (s old new : S) (x : Result (Unit {0}) SerFail) (e : SerFail) → IsErrAnd x (λ d. d ≡ e) → IsBuilt (Err e) (put_values xs s) new → IsPut put x (list_writes w m (list_meaning f xs)) old new
+  list_refused xs s old new (Ok u) e k h = absurd k
+  list_refused xs s old new (Err d) e k h = refused_on xs s old new d (subst (λ (z : SerFail). IsBuilt (Err z) (put_values xs s) new) (sym k) h)
+
+  -- what is opened, filled and closed is put in whole
+  pub list_closed : (opened : Bool → S → S) (closed : S → Result S SerError) → BuildsLists put opened closed → (xs : List T) (old s now new : S) (x : Result (Unit {0}) SerFail) →
+      ◌≡◌ {A = Result S SerError} (Ok (opened false old)) (Ok s) → put_values xs s ≡ Ok now → IsBuilt x (closed now) new → IsPut put x (list_writes w m (list_meaning f xs)) old new
+  list_closed opened closed lists xs old s now new x i h k =
+      let same : opened false old ≡ s = cc in
+      let filled : put_values xs (opened false old) ≡ Ok now = rw same h in
+      subst (λ r. IsBuilt x r new) (rw (values (w (at_value m)) f xs) (closed_on put closed (opened false old) old now (traverse (λ x. w (at_value m) (f x)) xs) (lists old) filled)) k
+
+  next_put : (a : Result Tree SerError) (b c : Result (List Tree) SerError) (s : S) (after : S → Result S SerError) → ((u : S) → bind c (λ ts. Ok (puts put ts u)) ≡ bind (bind b (λ ts. Ok (puts put ts u))) after) →
+      bind (bind a (λ t. bind c (λ ts. Ok (t ∷ ts)))) (λ ts. Ok (puts put ts s)) ≡ bind (bind (bind a (λ t. bind b (λ ts. Ok (t ∷ ts)))) (λ ts. Ok (puts put ts s))) after
+  next_put (Ok t) (Ok ts) (Ok us) s after later = later (put t s)
+  next_put (Ok t) (Ok ts) (Err e) s after later = later (put t s)
+  next_put (Ok t) (Err d) (Ok us) s after later = later (put t s)
+  next_put (Ok t) (Err d) (Err e) s after later = later (put t s)
+  next_put (Err e) b c s after later = refl
+
+  append : (xs ys : List T) (s : S) → put_values (xs ++ ys) s ≡ bind (put_values xs s) (put_values ys)
+  append [] ys s = refl
+  append (x ∷ xs) ys s =
+      let g : T → Result Tree SerError = λ y. w (at_value m) (f y) in
+      next_put (g x) (traverse g xs) (traverse g (xs ++ ys)) s (put_values ys) (append xs ys)
+
+  -- the values of two lists, one behind the other
+  module _ (xs ys all : List T) (is : xs ++ ys ≡ all) (s : S) where
+    pub front_refused : (e : SerFail) (new : S) → IsBuilt (Err e) (put_values xs s) new → IsBuilt (Err e) (put_values all s) new
+    front_refused (ser.Unwritable e) new h = rw (← is) (append xs ys s ∙ ap (λ r. bind r (put_values ys)) h)
+    front_refused ser.Memory new h = tt
+
+    pub back_refused : (mid : S) → put_values xs s ≡ Ok mid → (e : SerFail) (new : S) → IsBuilt (Err e) (put_values ys mid) new → IsBuilt (Err e) (put_values all s) new
+    back_refused mid k (ser.Unwritable e) new h = rw (← is) (append xs ys s ∙ ap (λ r. bind r (put_values ys)) k ∙ h)
+    back_refused mid k ser.Memory new h = tt
+
+    pub both_put : (mid now : S) → put_values xs s ≡ Ok mid → put_values ys mid ≡ Ok now → put_values all s ≡ Ok now
+    both_put mid now k h = rw (← is) (append xs ys s ∙ ap (λ r. bind r (put_values ys)) k ∙ h)
+
+-- ---- maps
+
+pairs : {A B : Type 0} (k w : Meaning → Result Tree SerError) (f : A → Meaning) (g : B → Meaning) (xs : List (A × B)) →
+    traverse (pair_writes k w) (parts (meanings (map (pair_meaning f g) xs))) ≡ traverse (pair_of (λ x. k (f x)) (λ y. w (g y))) xs
+pairs k w f g [] = refl
+pairs k w f g (x ∷ xs) = rw (pairs k w f g xs) refl
+
+-- a map that has been opened is written pair by pair
+pub map_opened : {S A B : Type 0} (put : Tree → S → S) (k w : Meaning → Result Tree SerError) (f : A → Meaning) (g : B → Meaning) (xs : List (A × B)) (s t : S) → ◌≡◌ {A = Result S SerError} (Ok s) (Ok t) →
+    all_put_pairs put (pair_writes k w) (parts (meanings (map (pair_meaning f g) xs))) s ≡ all_put_pairs put (pair_of (λ x. k (f x)) (λ y. w (g y))) xs t
+map_opened put k w f g xs s t e = let same : s ≡ t = cc in rw (pairs k w f g xs, same) refl

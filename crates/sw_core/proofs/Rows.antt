@@ -8,7 +8,7 @@ use Rattle.sw_tree.specs.declared.fail.Refusal.{Refusal}
 use Rattle.sw_elem.specs.Answers.{HasGained, IsCut}
 use Rattle.sw_core.specs.Inner.Rows.{seen_reads, seen_logs, seen_turns, both, all_both}
 use Rattle.sw_core.specs.Rows.{Reader, each_by, turns_by}
-use Rattle.sw_core.proofs.Logs.{gained_none, gained_more, gained_all, cut_here, cut_within}
+use Rattle.sw_core.proofs.Logs.{gained_none, gained_more, cut_here, cut_within}
 
 -- what a whole row gives, where its first part gave ys
 abbrev pub prefixed : {B E : Type 0} → List B → Result (List B) E → Result (List B) E
@@ -16,7 +16,7 @@ prefixed ys (Ok zs) = Ok (ys ++ zs)
 prefixed ys (Err e) = Err e
 
 -- before anything is read
-pub prefixed-none : {B E : Type 0} (r : Result (List B) E) → r ≡ prefixed [] r
+prefixed-none : {B E : Type 0} (r : Result (List B) E) → r ≡ prefixed [] r
 prefixed-none (Ok ys) = refl
 prefixed-none (Err e) = refl
 
@@ -71,26 +71,20 @@ module _ {M : Type 0} where
       ∙ next_logs (placed r.reads r.spot s) (seen_reads rs ss) notes (seen_logs rs ss) (seen_logs qs us)
 
 module _ {M : Type 0} (rs qs : List (Reader M)) (ss us : List Seen) (same : length rs ≡ length ss) where
-  pub part_read : (ys vs : List M) → seen_reads rs ss ≡ Ok vs → prefixed ys (seen_reads (rs ++ qs) (ss ++ us)) ≡ prefixed (ys ++ vs) (seen_reads qs us)
+  part_read : (ys vs : List M) → seen_reads rs ss ≡ Ok vs → prefixed ys (seen_reads (rs ++ qs) (ss ++ us)) ≡ prefixed (ys ++ vs) (seen_reads qs us)
   part_read ys vs p = ap (prefixed ys) (reads-append rs qs ss us same ∙ ap (λ x. bind x (λ ws. prefixed ws (seen_reads qs us))) p) ∙ prefixed-more ys vs (seen_reads qs us)
-
-  pub part_refused : (ys : List M) (e : Refusal) → seen_reads rs ss ≡ Err e → prefixed ys (seen_reads (rs ++ qs) (ss ++ us)) ≡ Err e
-  part_refused ys e p = ap (prefixed ys) (reads-append rs qs ss us same ∙ ap (λ x. bind x (λ ws. prefixed ws (seen_reads qs us))) p)
 
   module _ (old now new gains : List Refusal) (h : HasGained old now gains (seen_logs (rs ++ qs) (ss ++ us))) where
     split : HasGained old now gains (seen_logs rs ss ++ cond (is_ok (seen_reads rs ss)) (seen_logs qs us) [])
     split = rw (logs-append rs qs ss us same) at h
 
-    pub part_gained : (vs : List M) → seen_reads rs ss ≡ Ok vs → new ≡ now ++ seen_logs rs ss → HasGained old new gains (seen_logs qs us)
+    part_gained : (vs : List M) → seen_reads rs ss ≡ Ok vs → new ≡ now ++ seen_logs rs ss → HasGained old new gains (seen_logs qs us)
     part_gained vs p e = gained_more old now new gains (seen_logs rs ss) (seen_logs qs us) (rw p at split) e
 
-    pub part_ended : (d : Refusal) → seen_reads rs ss ≡ Err d → new ≡ now ++ seen_logs rs ss → new ≡ old ++ gains
-    part_ended d p e = gained_all old new gains (gained_more old now new gains (seen_logs rs ss) [] (rw p at split) e)
-
-    pub part_cut : IsCut now new (seen_logs rs ss) → IsCut old new gains
+    part_cut : IsCut now new (seen_logs rs ss) → IsCut old new gains
     part_cut c = cut_within old now new gains (seen_logs rs ss) (cond (is_ok (seen_reads rs ss)) (seen_logs qs us) []) split c
 
-    pub part_behind : new ≡ now ++ seen_logs rs ss → IsCut old new gains
+    part_behind : new ≡ now ++ seen_logs rs ss → IsCut old new gains
     part_behind e = let rest = cond (is_ok (seen_reads rs ss)) (seen_logs qs us) [] in cut_here old new gains rest (gained_more old now new gains (seen_logs rs ss) rest split e)
 
 -- ---- an entry, and the entries behind it

@@ -1,4 +1,5 @@
 -- What models and private clauses alone cite.
 pub mod Rows
+pub mod Putting
 pub mod Printing
 pub mod ByteWire

@@ -2,7 +2,6 @@
 pub mod Nodes
 pub mod Rows
 pub mod Plans
-pub mod Places
 pub mod Each
 pub mod Within
 pub mod Images

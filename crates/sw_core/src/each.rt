@@ -1,11 +1,13 @@
 #![tactic(auto, using(crate::proofs::Logs::gains))]
 
 ghost use Rattle.std.specs.Prelude.{map};
-ghost use Rattle.sw_tree.specs.Building.{IsPut};
+ghost use Rattle.sw_tree.specs.Building.{IsBuilt, IsPut};
 ghost use Rattle.sw_tree.specs.Meant.{list_meaning};
+ghost use Rattle.sw_tree.specs.Mode.{at_value};
 ghost use Rattle.sw_tree.specs.Placed.{placed, placed_notes};
 ghost use Rattle.sw_tree.specs.View.{seen, tree_of};
 ghost use Rattle.sw_elem.specs.Answers.{IsRead, IsLogged};
+ghost use Rattle.sw_core.specs.Inner.Putting.{all_put};
 ghost use Rattle.sw_core.specs.Inner.Rows.{seen_reads, seen_logs};
 ghost use Rattle.sw_core.specs.Rows.{reader, each_by};
 ghost use Rattle.sw_core.specs.Vec.{list_writes, list_reads, list_spot, list_skips};
@@ -33,10 +35,23 @@ pub fn write_list<T: Meant, A: SerializeAs<T>, B: Builds>(
     ensures { IsPut B.put result (list_writes A.writes mode (list_meaning T.meaning values.now)) out.old out.new }
 {
     out.open_list(values.len())?;
+    put_each::<T, A, B>(alloc, out, values, mode)?;
+    out.close()
+}
+
+/// Puts in these values one after another, each by `A` in value place.
+pub fn put_each<T: Meant, A: SerializeAs<T>, B: Builds>(
+    alloc: Global,
+    out: &mut B,
+    values: &[T],
+    mode: Mode,
+) -> Result<(), SerFail>
+    ensures { IsBuilt result (all_put B.put (λ x. A.writes (at_value mode) (T.meaning x)) values.now out.old) out.new }
+{
     for value in values {
         A::write_as(alloc, out, value, mode.value())?;
     }
-    out.close()
+    Ok(())
 }
 
 /// The values of a list's items, each by `A` in value place. A node of another kind is refused as

@@ -5,6 +5,7 @@ ghost use Rattle.std.specs.Prelude.{◌≡◌, true, false};
 use crate::adapter::DeserializeAs;
 use crate::display::DisplayFromStr;
 use crate::same::Same;
+use std::collections::VecDeque;
 use sw_elem::any::Any;
 use sw_tree::meant::Meant;
 
@@ -68,4 +69,11 @@ pub fn is_list_free<T: Meant, A: DeserializeAs<T>>() -> bool
     ensures { result ≡ false }
 {
     <Vec<A> as DeserializeAs<Vec<T>>>::FREE
+}
+
+/// A queue isn't, either.
+pub fn is_queue_free<T: Meant, A: DeserializeAs<T>>() -> bool
+    ensures { result ≡ false }
+{
+    <VecDeque<A> as DeserializeAs<VecDeque<T>>>::FREE
 }

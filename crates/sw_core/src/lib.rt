@@ -3,6 +3,7 @@
 
 pub mod adapter;
 pub mod as_;
+pub mod deque;
 pub mod display;
 mod each;
 pub mod entries;

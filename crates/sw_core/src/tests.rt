@@ -16,6 +16,7 @@ use crate::recode::RecodeError;
 use crate::same::Same;
 use crate::token::Faithful;
 use std::alloc::{AllocError, Global};
+use std::collections::VecDeque;
 use sw_check::blame::CheckFail;
 use sw_check::check;
 use sw_check::expr::Expr;
@@ -111,6 +112,30 @@ fn texts_are_read_and_written_again(rt: HostRuntime) -> Result<(), AllocError> {
         Err(_) => Node::null(),
     };
     assert!(rt; are_the_two_texts(Doc::from_node(rt.alloc(), &written)?.view()));
+    Ok(())
+}
+
+#[test]
+fn a_queue_is_read_and_written_as_its_list(rt: HostRuntime) -> Result<(), AllocError> {
+    let alloc = rt.alloc();
+    let doc = two_texts(alloc)?;
+    let mode = Mode::plain(WireKind::Json);
+    let mut log = Skipped::new(alloc);
+    let queue: VecDeque<u32> = match As::<VecDeque<DisplayFromStr>>::deserialize(
+        alloc,
+        doc.view(),
+        mode,
+        &mut log,
+    ) {
+        Ok(queue) => queue,
+        Err(_) => VecDeque::new(alloc),
+    };
+    assert!(rt; queue.len() == 2);
+    let written = match As::<VecDeque<DisplayFromStr>>::serialize(alloc, &queue, mode) {
+        Ok(written) => written,
+        Err(_) => Node::null(),
+    };
+    assert!(rt; are_the_two_texts(Doc::from_node(alloc, &written)?.view()));
     Ok(())
 }
 

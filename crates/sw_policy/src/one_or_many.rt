@@ -77,7 +77,7 @@ impl<T: Meant, A: DeserializeAs<T>, F: Preference> DeserializeAs<Vec<T>> for One
         choose::<Vec<T>, (Alone<A>, Vec<A>)>(alloc, view, mode, log)
     }
 
-    ghost lawful = { one_or_many_lawful A.lawful A.skips };
+    ghost lawful = { one_or_many_lawful A.skips A.lawful };
 }
 
 /// It is as faithful as its part, buffered in value place: the norm of a list has its items' norms.

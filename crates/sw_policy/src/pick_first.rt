@@ -83,7 +83,7 @@ impl<T: Meant, A: DeserializeAs<T>, B: DeserializeAs<T>> DeserializeAs<T> for Pi
     ghost use Rattle.sw_elem.specs.Equations.{own_spot};
     ghost use Rattle.sw_policy.specs.Options.{reader};
     ghost use Rattle.sw_policy.specs.PickFirst.{pick_reads, pick_skips};
-    ghost use Rattle.sw_policy.specs.Laws.PickFirst.{pick_lawful};
+    ghost use Rattle.sw_policy.specs.Laws.PickFirst.{pick_two_lawful};
 
     const FREE: bool = A::FREE && B::FREE;
 
@@ -104,7 +104,7 @@ impl<T: Meant, A: DeserializeAs<T>, B: DeserializeAs<T>> DeserializeAs<T> for Pi
         choose::<T, (A, B)>(alloc, view, mode, log)
     }
 
-    ghost lawful = { pick_lawful T.is_meaning (reader A.reads A.skips ∷ reader B.reads B.skips ∷ []) (A.lawful.meanings, (B.lawful.meanings, tt)) };
+    ghost lawful = { pick_two_lawful A.skips A.lawful B.skips B.lawful };
 }
 
 impl<T: Meant, A: SerializeAs<T>, B: SerializeAs<T>, C: SerializeAs<T>> SerializeAs<T>
@@ -127,7 +127,7 @@ impl<T: Meant, A: DeserializeAs<T>, B: DeserializeAs<T>, C: DeserializeAs<T>> De
     ghost use Rattle.sw_elem.specs.Equations.{own_spot};
     ghost use Rattle.sw_policy.specs.Options.{reader};
     ghost use Rattle.sw_policy.specs.PickFirst.{pick_reads, pick_skips};
-    ghost use Rattle.sw_policy.specs.Laws.PickFirst.{pick_lawful};
+    ghost use Rattle.sw_policy.specs.Laws.PickFirst.{pick_three_lawful};
 
     const FREE: bool = A::FREE && B::FREE && C::FREE;
 
@@ -148,7 +148,7 @@ impl<T: Meant, A: DeserializeAs<T>, B: DeserializeAs<T>, C: DeserializeAs<T>> De
         choose::<T, (A, B, C)>(alloc, view, mode, log)
     }
 
-    ghost lawful = { pick_lawful T.is_meaning (reader A.reads A.skips ∷ reader B.reads B.skips ∷ reader C.reads C.skips ∷ []) (A.lawful.meanings, (B.lawful.meanings, (C.lawful.meanings, tt))) };
+    ghost lawful = { pick_three_lawful A.skips A.lawful B.skips B.lawful C.skips C.lawful };
 }
 
 impl<
@@ -181,7 +181,7 @@ impl<
     ghost use Rattle.sw_elem.specs.Equations.{own_spot};
     ghost use Rattle.sw_policy.specs.Options.{reader};
     ghost use Rattle.sw_policy.specs.PickFirst.{pick_reads, pick_skips};
-    ghost use Rattle.sw_policy.specs.Laws.PickFirst.{pick_lawful};
+    ghost use Rattle.sw_policy.specs.Laws.PickFirst.{pick_four_lawful};
 
     const FREE: bool = A::FREE && B::FREE && C::FREE && D::FREE;
 
@@ -202,7 +202,7 @@ impl<
         choose::<T, (A, B, C, D)>(alloc, view, mode, log)
     }
 
-    ghost lawful = { pick_lawful T.is_meaning (reader A.reads A.skips ∷ reader B.reads B.skips ∷ reader C.reads C.skips ∷ reader D.reads D.skips ∷ []) (A.lawful.meanings, (B.lawful.meanings, (C.lawful.meanings, (D.lawful.meanings, tt)))) };
+    ghost lawful = { pick_four_lawful A.skips A.lawful B.skips B.lawful C.skips C.lawful D.skips D.lawful };
 }
 
 /// The choice of one is as faithful as that option.

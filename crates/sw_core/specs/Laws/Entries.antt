@@ -27,13 +27,13 @@ use Rattle.sw_elem.specs.Equations.{Writes, Reads, Spots, Skips, LawfulReading}
 use Rattle.sw_elem.specs.Laws.{Norm, HasImages, ReadsBack, NeverKey, IsUnmarked, IsExact, WritesNodes, NormsWithin}
 use Rattle.sw_elem.specs.Lawful.{Lawful}
 use Rattle.sw_core.specs.Plans.{children}
-use Rattle.sw_core.specs.Rows.{Reader, reader, turns_by, row_reads}
+use Rattle.sw_core.specs.Rows.{Reader, reader, turns_by}
 use Rattle.sw_core.specs.Entries.{pair_writes, entries_writes, twos, entries_plan, entries_reads, entries_spot, entries_skips, pair_norm, entries_norm}
 use Rattle.sw_core.specs.Laws.Each.{Beside, each_made, each_imaged, each_back, each_never, each_kept, each_same, each_normed}
 use Rattle.sw_core.specs.Laws.Images.{both_images, entry_image, map-image, mapped_some}
 use Rattle.sw_core.specs.Laws.Nodes.{IsBelow, IsOfKind}
 use Rattle.sw_core.specs.Laws.Plans.{RefusesItself, plan_lawful, plan_spot_kinds, plan_note_kinds}
-use Rattle.sw_core.specs.Laws.Rows.{EachAt, Refuses, Notes, turns_by-at, reader_below, reader_kinds, reader_notes, AreRead}
+use Rattle.sw_core.specs.Laws.Rows.{EachAt, Refuses, Notes, turns_by-at, reader_below, reader_kinds, reader_notes, AreRead, row-reads}
 use Rattle.sw_core.specs.Laws.Within.{within_ok, within_shallow, within_key}
 
 -- ---- reading
@@ -74,18 +74,20 @@ abbrev IsEntry : Reader Meaning → Reader Meaning → Tree × Tree → Meaning 
 IsEntry r q e v = (a : Meaning) × (b : Meaning) × (r.reads e.0 ≡ Ok a) × (q.reads e.1 ≡ Ok b) × (pair a b ≡ v)
 
 -- each image is read as the norm beside it
-read_row : (r q : Reader Meaning) (es : List (Tree × Tree)) (vs : List Meaning) → Beside (IsEntry r q) es vs → (us : List Meaning) × (row_reads (turns_by r q es) (by_turns es) ≡ Ok us) × (twos us ≡ vs)
-read_row r q [] [] h = ([], refl, refl)
-read_row r q [] (v ∷ vs) h = absurd h
-read_row r q (e ∷ es) [] h = absurd h
-read_row r q (e ∷ es) (v ∷ vs) h =
+are_read : (r q : Reader Meaning) (es : List (Tree × Tree)) (vs : List Meaning) → Beside (IsEntry r q) es vs → (us : List Meaning) × AreRead (turns_by r q es) (by_turns es) us × (twos us ≡ vs)
+are_read r q [] [] h = ([], tt, refl)
+are_read r q [] (v ∷ vs) h = absurd h
+are_read r q (e ∷ es) [] h = absurd h
+are_read r q (e ∷ es) (v ∷ vs) h =
     let c = h.0 in
-    let t = read_row r q es vs h.1 in
-    (c.0 ∷ c.1 ∷ t.0, rw (c.2, c.3, t.1) refl, (λ i. c.4 i ∷ t.2 i))
+    let t = are_read r q es vs h.1 in
+    (c.0 ∷ c.1 ∷ t.0, (c.2, (c.3, t.1)), (λ i. c.4 i ∷ t.2 i))
 
 read_map : (r : Reads) (s : Spots) (k : Skips) (q : Reads) (z : Spots) (l : Skips) (m : Mode) (i : Tree) (is : List (Tree × Tree)) (vs us : List Meaning) → i ≡ node.map (entries is) →
-    row_reads (turns_by (reader r s k (at_key m)) (reader q z l (at_value m)) is) (by_turns is) ≡ Ok us → twos us ≡ vs → entries_reads r s k q z l m i ≡ Ok (list (meanings vs))
-read_map r s k q z l m i is vs us e p h = rw (e, pairs-entries is, p) (ap (λ (ws : List Meaning). Ok (list (meanings ws))) h)
+    AreRead (turns_by (reader r s k (at_key m)) (reader q z l (at_value m)) is) (by_turns is) us → twos us ≡ vs → entries_reads r s k q z l m i ≡ Ok (list (meanings vs))
+read_map r s k q z l m i is vs us e p h =
+    let rs = turns_by (reader r s k (at_key m)) (reader q z l (at_value m)) is in
+    rw (e, pairs-entries is, row-reads rs (by_turns is) us p) (ap (λ (ws : List Meaning). Ok (list (meanings ws))) h)
 
 read_kind : (r : Reads) (s : Spots) (k : Skips) (q : Reads) (z : Spots) (l : Skips) (m : Mode) (t : Tree) (v : Meaning) → entries_reads r s k q z l m t ≡ Ok v → is_kind kind.Map (kind_of t) ≡ true
 read_kind r s k q z l m (node.map es) v p = refl
@@ -176,7 +178,7 @@ module _ (P Q : Meaning → Type 0) (k w : Writes) where
       let d = mapped_some make (option_traverse (entry_image m.wire) c.0) u (sym (map-image m.wire m.place t c.0 away c.2) ∙ e) in
       let b = each_back f (entry_image m.wire) (IsPairOf P Q) (IsEntry key value) norm
       (pair_back P Q (k (at_key m)) (w (at_value m)) m.wire key value (n (at_key m)) (l (at_value m)) keys values) (parts vs) c.0 d.0 h c.1 d.1 in
-      let g = read_row key value d.0 (list_map norm (parts vs)) b in
+      let g = are_read key value d.0 (list_map norm (parts vs)) b in
       read_map r s j q z i m u d.0 (list_map norm (parts vs)) g.0 d.2 g.1 g.2
   back r s j q z i n l m keys values away _ t u h p e = absurd h
 

@@ -28,13 +28,13 @@ use Rattle.sw_elem.specs.Equations.{Writes, Reads, Spots, Skips, LawfulReading}
 use Rattle.sw_elem.specs.Laws.{Norm, HasImages, ReadsBack, NeverKey, IsUnmarked, IsExact, WritesNodes, NormsWithin}
 use Rattle.sw_elem.specs.Lawful.{Lawful}
 use Rattle.sw_core.specs.Plans.{children}
-use Rattle.sw_core.specs.Rows.{Reader, reader, each_by, row_reads}
+use Rattle.sw_core.specs.Rows.{Reader, reader, each_by}
 use Rattle.sw_core.specs.Vec.{list_writes, list_plan, list_reads, list_spot, list_skips, list_norm}
 use Rattle.sw_core.specs.Laws.Each.{Beside, each_made, each_imaged, each_back, each_never, each_kept, each_same, each_normed}
 use Rattle.sw_core.specs.Laws.Images.{list-image, mapped_some}
 use Rattle.sw_core.specs.Laws.Nodes.{IsBelow, IsOfKind}
 use Rattle.sw_core.specs.Laws.Plans.{RefusesItself, plan_lawful, plan_spot_kinds, plan_note_kinds}
-use Rattle.sw_core.specs.Laws.Rows.{EachAt, Refuses, Notes, each_by-at, reader_below, reader_kinds, reader_notes, AreRead, each-meant}
+use Rattle.sw_core.specs.Laws.Rows.{EachAt, Refuses, Notes, each_by-at, reader_below, reader_kinds, reader_notes, AreRead, row-reads, each-meant}
 use Rattle.sw_core.specs.Laws.Within.{within_ok, within_shallow, within_key}
 
 -- ---- reading
@@ -61,14 +61,16 @@ module _ {P : Meaning → Type 0} {r : Reads} {s : Spots} (k : Skips) (law : Law
   list_lawful = plan_lawful (list_plan r s k) (itself r s k) (IsListOf P) (meant r s k P law) (λ m. at_items r s k (Refuses IsBelow) m (reader_below k law (at_value m)))
 
 -- each image is read as the norm beside it
-read_row : (r : Reader Meaning) (ts : List Tree) (vs : List Meaning) → Beside (λ t v. r.reads t ≡ Ok v) ts vs → row_reads (each_by r ts) ts ≡ Ok vs
-read_row r [] [] h = refl
-read_row r [] (v ∷ vs) h = absurd h
-read_row r (t ∷ ts) [] h = absurd h
-read_row r (t ∷ ts) (v ∷ vs) h = rw (h.0, read_row r ts vs h.1) refl
+are_read : (r : Reader Meaning) (ts : List Tree) (vs : List Meaning) → Beside (λ t v. r.reads t ≡ Ok v) ts vs → AreRead (each_by r ts) ts vs
+are_read r [] [] h = tt
+are_read r [] (v ∷ vs) h = absurd h
+are_read r (t ∷ ts) [] h = absurd h
+are_read r (t ∷ ts) (v ∷ vs) h = (h.0, are_read r ts vs h.1)
 
 read_list : (r : Reads) (s : Spots) (k : Skips) (m : Mode) (i : Tree) (is : List Tree) (us : List Meaning) → i ≡ node.list (trees is) → Beside (λ t v. r (at_value m) t ≡ Ok v) is us → list_reads r s k m i ≡ Ok (list (meanings us))
-read_list r s k m i is us e h = rw (e, items-trees is, read_row (reader r s k (at_value m)) is us h) refl
+read_list r s k m i is us e h =
+    let x = reader r s k (at_value m) in
+    rw (e, items-trees is, row-reads (each_by x is) is us (are_read x is us h)) refl
 
 read_kind : (r : Reads) (s : Spots) (k : Skips) (m : Mode) (t : Tree) (v : Meaning) → list_reads r s k m t ≡ Ok v → is_kind kind.List (kind_of t) ≡ true
 read_kind r s k m (node.list ts) v p = refl

@@ -52,8 +52,9 @@ module _ {P : Meaning → Type 0} {r : Reads} {s : Spots} (law : LawfulReading P
     inside = λ m t e p. law.inside (at_value m) t e (alone_refused (r (at_value m) t) e p);
   }
 
-  pub one_or_many_lawful : (k : Skips) → LawfulReading (IsListOf P) (one_or_many_reads r s k) own_spot
-  one_or_many_lawful k = pick_lawful (IsListOf P) (both_forms r s k) (alone_meanings, ((list_lawful k law).meanings, tt))
+module _ {P : Meaning → Type 0} {r : Reads} {s : Spots} (k : Skips) (law : LawfulReading P r s) where
+  pub one_or_many_lawful : LawfulReading (IsListOf P) (one_or_many_reads r s k) own_spot
+  one_or_many_lawful = pick_lawful (IsListOf P) (both_forms r s k) (alone_meanings law, ((list_lawful k law).meanings, tt))
 
 -- ---- how a list of values is written
 

@@ -46,6 +46,19 @@ module _ (P : Meaning → Type 0) where
     inside = λ m t e p. own_spot-inside m t;
   }
 
+-- so it is with two to four options
+module _ {P : Meaning → Type 0} {r r2 : Reads} {s s2 : Spots} (k : Skips) (first : LawfulReading P r s) (k2 : Skips) (second : LawfulReading P r2 s2) where
+  pub pick_two_lawful : LawfulReading P (pick_reads (reader r k ∷ reader r2 k2 ∷ [])) own_spot
+  pick_two_lawful = pick_lawful P (reader r k ∷ reader r2 k2 ∷ []) (first.meanings, (second.meanings, tt))
+
+  module _ {r3 : Reads} {s3 : Spots} (k3 : Skips) (third : LawfulReading P r3 s3) where
+    pub pick_three_lawful : LawfulReading P (pick_reads (reader r k ∷ reader r2 k2 ∷ reader r3 k3 ∷ [])) own_spot
+    pick_three_lawful = pick_lawful P (reader r k ∷ reader r2 k2 ∷ reader r3 k3 ∷ []) (first.meanings, (second.meanings, (third.meanings, tt)))
+
+    module _ {r4 : Reads} {s4 : Spots} (k4 : Skips) (fourth : LawfulReading P r4 s4) where
+      pub pick_four_lawful : LawfulReading P (pick_reads (reader r k ∷ reader r2 k2 ∷ reader r3 k3 ∷ reader r4 k4 ∷ [])) own_spot
+      pick_four_lawful = pick_lawful P (reader r k ∷ reader r2 k2 ∷ reader r3 k3 ∷ reader r4 k4 ∷ []) (first.meanings, (second.meanings, (third.meanings, (fourth.meanings, tt))))
+
 -- ---- all laws
 
 -- what an option that is tried keeps: it reads trees of its expression's kinds alone, and what it passes over are nodes of the tree

@@ -1,5 +1,5 @@
 use Rattle.sw_tree.specs.View.{seen}
-use Rattle.sw_core.proofs.AtPlaces.{list_read, list_logged}
+use Rattle.sw_core.proofs.Children.{list_read, list_logged}
 use Rattle.sw_core.proofs.each.read_list.Goals as goal
 
 pub returns-in-Some-clause-answer : goal.returns-in-Some-clause-answer

@@ -1,9 +1,12 @@
-use Rattle.std.proofs.Common.{false}
-use Rattle.sw_tree.specs.Mode.{at_value}
-use Rattle.sw_core.proofs.Putting.{list_opened}
+use Rattle.sw_core.proofs.Putting.{list_refused, list_closed}
 use Rattle.sw_core.proofs.each.write_list.Goals as goal
 
-pub loop-value-init : goal.loop-value-init
-loop-value-init g c =
-    list_opened g.B.Builds.put (g.A.SerializeAs.writes (at_value c.args.mode)) g.T.Named.meaning c.args.values.now (g.B.Builds.opened false c.args.out.now) c.open_list.new.self
-    c.in_ok-open_list.ensures
+pub returns-in_err-put_each : goal.returns-in_err-put_each
+returns-in_err-put_each g c =
+    list_refused g.B.Builds.put g.A.SerializeAs.writes g.T.Named.meaning c.args.mode c.args.values.now c.open_list.new.self c.args.out.now c.put_each.new.out c.from_residual-in_err-put_each.result c.in_err-put_each.field-0.0
+    c.from_residual-in_err-put_each.ensures.1 c.in_err-put_each.ensures
+
+pub returns : goal.returns
+returns g c =
+    list_closed g.B.Builds.put g.A.SerializeAs.writes g.T.Named.meaning c.args.mode g.B.Builds.opened g.B.Builds.closed g.met.B.Builds.lists c.args.values.now c.args.out.now c.open_list.new.self c.put_each.new.out c.close.new.self
+    c.close.result c.in_ok-open_list.ensures c.in_ok-put_each.ensures c.close.ensures

@@ -1,5 +1,5 @@
 use Rattle.sw_tree.specs.View.{seen}
-use Rattle.sw_core.proofs.AtPlaces.{map_read, map_logged}
+use Rattle.sw_core.proofs.Children.{map_read, map_logged}
 use Rattle.sw_core.proofs.entries.read_entries.Goals as goal
 
 pub returns-in-Some-clause-answer : goal.returns-in-Some-clause-answer

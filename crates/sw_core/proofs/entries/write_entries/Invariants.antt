@@ -4,7 +4,7 @@ use Rattle.sw_tree.specs.Meant.{pair_meaning}
 use Rattle.sw_tree.specs.Mode.{at_key, at_value}
 use Rattle.sw_tree.specs.Placed.{pair_of}
 use Rattle.sw_core.specs.Entries.{pair_writes}
-use Rattle.sw_core.proofs.Putting.{all_put_pairs}
+use Rattle.sw_core.specs.Inner.Putting.{all_put_pairs}
 use Rattle.sw_core.proofs.entries.write_entries.Given as goal
 
 abbrev pub invariant-loop-pair : goal.invariant-loop-pair

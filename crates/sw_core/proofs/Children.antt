@@ -16,7 +16,7 @@ use Rattle.sw_elem.specs.Equations.{Reads, Spots, Skips}
 use Rattle.sw_elem.specs.Answers.{IsRead, IsLogged}
 use Rattle.sw_core.specs.Entries.{twos, entries_plan, entries_reads, entries_spot, entries_skips}
 use Rattle.sw_core.specs.Inner.Rows.{seen_reads, seen_logs, seen_turns, all_both}
-use Rattle.sw_core.specs.Laws.Places.{plan-placed, plan-logged, turns-row}
+use Rattle.sw_core.proofs.Places.{plan-placed, plan-logged, turns-row}
 use Rattle.sw_core.specs.Rows.{Reader, reader, each_by, turns_by}
 use Rattle.sw_core.specs.Vec.{list_plan, list_reads, list_spot, list_skips}
 
