@@ -3,12 +3,14 @@
 
 pub mod adapter;
 pub mod as_;
+pub mod boxed;
 pub mod display;
 mod each;
 pub mod entries;
 pub mod faithful;
 pub mod formats;
 pub mod free;
+pub mod ordered_map;
 pub mod recode;
 pub mod same;
 pub mod token;
