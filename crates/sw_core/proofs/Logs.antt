@@ -24,6 +24,10 @@ cut_at_start old gains = record { rest = gains; gained = gained_none old gains }
 pub cut_here : (old new gains rest : List Refusal) → HasGained old new gains rest → IsCut old new gains
 cut_here old new gains rest h = record { rest = rest; gained = h }
 
+-- or after all is logged
+pub cut_at_end : (old new gains : List Refusal) → new ≡ old ++ gains → IsCut old new gains
+cut_at_end old new gains e = record { rest = []; gained = record { part = gains; log = e; split = sym (append-nil gains) } }
+
 pub cut_within : (old now new gains first rest : List Refusal) → HasGained old now gains (first ++ rest) → IsCut now new first → IsCut old new gains
 cut_within old now new gains first rest h c =
     record {
@@ -35,4 +39,4 @@ cut_within old now new gains first rest h c =
       };
     }
 
-pub ruleset gains = (gained_none, gained_more, gained_all, cut_at_start, cut_here, cut_within)
+pub ruleset gains = (gained_none, gained_more, gained_all, cut_at_start, cut_at_end, cut_here, cut_within)

@@ -7,5 +7,6 @@ pub mod Within
 pub mod Images
 pub mod Vec
 pub mod Entries
+pub mod OrderedMap
 pub mod Display
 pub mod Again

@@ -2,6 +2,7 @@ pub mod Rows
 pub mod Plans
 pub mod Vec
 pub mod Entries
+pub mod OrderedMap
 pub mod Display
 pub mod Faithful
 pub mod Recoding

@@ -3,6 +3,7 @@
 
 pub mod adapter;
 pub mod as_;
+pub mod boxed;
 pub mod deque;
 pub mod display;
 mod each;
@@ -10,6 +11,7 @@ pub mod entries;
 pub mod faithful;
 pub mod formats;
 pub mod free;
+pub mod ordered_map;
 pub mod recode;
 pub mod same;
 pub mod token;

@@ -16,7 +16,7 @@ use crate::recode::RecodeError;
 use crate::same::Same;
 use crate::token::Faithful;
 use std::alloc::{AllocError, Global};
-use std::collections::VecDeque;
+use std::collections::{BTreeMap, VecDeque};
 use sw_check::blame::CheckFail;
 use sw_check::check;
 use sw_check::expr::Expr;
@@ -380,4 +380,138 @@ fn what_is_copied_takes_memory(rt: HostRuntime) {
     assert!(rt; are_parsed_leaves_free());
     assert!(rt; !is_parsed_text_free());
     assert!(rt; !is_list_free::<u8, Same>());
+}
+
+type Counts = BTreeMap<Same, DisplayFromStr>;
+
+/// What reading the builder's document by `A` answers.
+fn read_by<T: Meant, A: DeserializeAs<T>>(
+    alloc: Global,
+    builder: DocBuilder<'_>,
+) -> Result<T, DeFail> {
+    let doc = builder.finish();
+    let mut log = Skipped::new(alloc);
+    As::<A>::deserialize(alloc, doc.view(), Mode::plain(WireKind::Json), &mut log)
+}
+
+/// A map of these texts.
+fn map_of(alloc: Global, entries: &[(&str, &str)]) -> Result<DocBuilder<'static>, AllocError> {
+    let mut builder = DocBuilder::new(alloc, b"".as_slice());
+    builder.open_map()?;
+    for (key, value) in entries {
+        builder.copied(*key)?;
+        builder.copied(*value)?;
+    }
+    builder.close()?;
+    Ok(builder)
+}
+
+/// Whether the view's tree is a map of these texts, in order.
+fn are_entries(view: View<'_>, want: &[(&str, &str)]) -> bool {
+    let Some(mut entries) = view.entries() else {
+        return false;
+    };
+    for (key, value) in want {
+        match entries.next() {
+            Some((a, b)) if a.as_text() == Some(*key) && b.as_text() == Some(*value) => {}
+            _ => return false,
+        }
+    }
+    matches!(entries.next(), None)
+}
+
+#[test]
+fn the_last_of_equal_keys_stays_and_keys_are_in_order(rt: HostRuntime) -> Result<(), AllocError> {
+    let alloc = rt.alloc();
+    let mode = Mode::plain(WireKind::Json);
+    for (read, written) in [
+        ([].as_slice(), [].as_slice()),
+        ([("a", "1")].as_slice(), [("a", "1")].as_slice()),
+        (
+            [("b", "1"), ("a", "2"), ("b", "3")].as_slice(),
+            [("a", "2"), ("b", "3")].as_slice(),
+        ),
+        (
+            [("c", "9"), ("ab", "8"), ("a", "7"), ("a", "6"), ("", "5")].as_slice(),
+            [("", "5"), ("a", "6"), ("ab", "8"), ("c", "9")].as_slice(),
+        ),
+    ] {
+        match read_by::<BTreeMap<String, u32>, Counts>(alloc, map_of(alloc, read)?) {
+            Ok(counts) => {
+                assert!(rt; counts.len() == written.len());
+                match As::<Counts>::serialize(alloc, &counts, mode) {
+                    Ok(node) => assert!(rt;
+                        are_entries(Doc::from_node(alloc, &node)?.view(), written)
+                    ),
+                    Err(_) => assert!(rt; false),
+                }
+            }
+            Err(_) => assert!(rt; false),
+        }
+    }
+    Ok(())
+}
+
+#[test]
+fn a_refused_entry_of_a_map_is_at_its_node(rt: HostRuntime) -> Result<(), AllocError> {
+    let alloc = rt.alloc();
+    for (entries, place) in [
+        ([("a", "x")].as_slice(), 2),
+        ([("a", "1"), ("a", "x"), ("a", "2")].as_slice(), 4),
+    ] {
+        match read_by::<BTreeMap<String, u32>, Counts>(alloc, map_of(alloc, entries)?) {
+            Err(DeFail::Refused(refusal)) => assert!(rt;
+                refusal
+                    == Refusal {
+                        error: DeError::Text,
+                        place
+                    }
+            ),
+            _ => assert!(rt; false),
+        }
+    }
+    Ok(())
+}
+
+#[test]
+fn a_box_is_written_and_read_as_what_it_holds(rt: HostRuntime) -> Result<(), AllocError> {
+    let alloc = rt.alloc();
+    let mode = Mode::plain(WireKind::Json);
+    for (text, want) in [("1", Some(1)), ("20", Some(20)), ("x", None)] {
+        let mut builder = DocBuilder::new(alloc, b"".as_slice());
+        builder.copied(text)?;
+        match read_by::<Box<u32>, Box<DisplayFromStr>>(alloc, builder) {
+            Ok(boxed) => {
+                assert!(rt; want == Some(*boxed));
+                match As::<Box<DisplayFromStr>>::serialize(alloc, &boxed, mode) {
+                    Ok(node) => assert!(rt; node.as_text() == Some(text)),
+                    Err(_) => assert!(rt; false),
+                }
+            }
+            Err(error) => assert!(rt;
+                want == None
+                    && error
+                        == DeFail::Refused(Refusal {
+                            error: DeError::Text,
+                            place: 0
+                        })
+            ),
+        }
+    }
+    Ok(())
+}
+
+#[test]
+fn boxes_and_maps_are_described(rt: HostRuntime) -> Result<(), AllocError> {
+    let alloc = rt.alloc();
+    let value = Mode::plain(WireKind::Json);
+    let boxed = <Box<Numbers> as Adapter<Box<Vec<u32>>>>::describe(alloc)?;
+    let counts = <Counts as Adapter<BTreeMap<String, u32>>>::describe(alloc)?;
+    for (mode, want) in [(value, None), (value.key(), Some(Rule::S2))] {
+        assert!(rt; fault(alloc, &boxed, mode) == want);
+        assert!(rt; fault(alloc, &counts, mode) == want);
+    }
+    assert!(rt; !<Box<Same> as DeserializeAs<Box<u8>>>::FREE);
+    assert!(rt; !<Counts as DeserializeAs<BTreeMap<String, u32>>>::FREE);
+    Ok(())
 }
