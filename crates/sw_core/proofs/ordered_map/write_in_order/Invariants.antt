@@ -4,7 +4,7 @@ use Rattle.sw_tree.specs.Meant.{pair_meaning}
 use Rattle.sw_tree.specs.Mode.{at_key, at_value}
 use Rattle.sw_tree.specs.Placed.{pair_of}
 use Rattle.sw_core.specs.Entries.{pair_writes}
-use Rattle.sw_core.proofs.Putting.{all_put_pairs}
+use Rattle.sw_core.specs.Inner.Putting.{all_put_pairs}
 use Rattle.sw_core.proofs.ordered_map.write_in_order.Given as goal
 
 abbrev pub invariant-loop-key : goal.invariant-loop-key
