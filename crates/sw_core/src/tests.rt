@@ -384,26 +384,32 @@ fn what_is_copied_takes_memory(rt: HostRuntime) {
 
 type Counts = BTreeMap<Same, DisplayFromStr>;
 
-/// What reading the builder's document by `A` answers.
-fn read_by<T: Meant, A: DeserializeAs<T>>(
-    alloc: Global,
-    builder: DocBuilder<'_>,
-) -> Result<T, DeFail> {
-    let doc = builder.finish();
+/// What reading the node by `A` answers.
+fn read_by<T: Meant, A: DeserializeAs<T>>(alloc: Global, node: &Node) -> Result<T, DeFail> {
+    let Ok(doc) = Doc::from_node(alloc, node) else {
+        return Err(DeFail::Memory);
+    };
     let mut log = Skipped::new(alloc);
     As::<A>::deserialize(alloc, doc.view(), Mode::plain(WireKind::Json), &mut log)
 }
 
+fn text_of(alloc: Global, text: &str) -> Result<Node, AllocError> {
+    Ok(Node::text(String::from_str(alloc, text)?))
+}
+
 /// A map of these texts.
-fn map_of(alloc: Global, entries: &[(&str, &str)]) -> Result<DocBuilder<'static>, AllocError> {
-    let mut builder = DocBuilder::new(alloc, b"".as_slice());
-    builder.open_map()?;
+fn map_of(alloc: Global, entries: &[(&str, &str)]) -> Result<Node, AllocError> {
+    let mut pairs = Vec::new(alloc);
     for (key, value) in entries {
-        builder.copied(*key)?;
-        builder.copied(*value)?;
+        let entry = (text_of(alloc, *key)?, text_of(alloc, *value)?);
+        if pairs.push(entry).is_err() {
+            return Err(AllocError);
+        }
     }
-    builder.close()?;
-    Ok(builder)
+    match Node::map(pairs) {
+        Ok(map) => Ok(map),
+        Err(_) => Ok(Node::null()),
+    }
 }
 
 /// Whether the view's tree is a map of these texts, in order.
@@ -436,7 +442,7 @@ fn the_last_of_equal_keys_stays_and_keys_are_in_order(rt: HostRuntime) -> Result
             [("", "5"), ("a", "6"), ("ab", "8"), ("c", "9")].as_slice(),
         ),
     ] {
-        match read_by::<BTreeMap<String, u32>, Counts>(alloc, map_of(alloc, read)?) {
+        match read_by::<BTreeMap<String, u32>, Counts>(alloc, &map_of(alloc, read)?) {
             Ok(counts) => {
                 assert!(rt; counts.len() == written.len());
                 match As::<Counts>::serialize(alloc, &counts, mode) {
@@ -459,7 +465,7 @@ fn a_refused_entry_of_a_map_is_at_its_node(rt: HostRuntime) -> Result<(), AllocE
         ([("a", "x")].as_slice(), 2),
         ([("a", "1"), ("a", "x"), ("a", "2")].as_slice(), 4),
     ] {
-        match read_by::<BTreeMap<String, u32>, Counts>(alloc, map_of(alloc, entries)?) {
+        match read_by::<BTreeMap<String, u32>, Counts>(alloc, &map_of(alloc, entries)?) {
             Err(DeFail::Refused(refusal)) => assert!(rt;
                 refusal
                     == Refusal {
@@ -478,9 +484,7 @@ fn a_box_is_written_and_read_as_what_it_holds(rt: HostRuntime) -> Result<(), All
     let alloc = rt.alloc();
     let mode = Mode::plain(WireKind::Json);
     for (text, want) in [("1", Some(1)), ("20", Some(20)), ("x", None)] {
-        let mut builder = DocBuilder::new(alloc, b"".as_slice());
-        builder.copied(text)?;
-        match read_by::<Box<u32>, Box<DisplayFromStr>>(alloc, builder) {
+        match read_by::<Box<u32>, Box<DisplayFromStr>>(alloc, &text_of(alloc, text)?) {
             Ok(boxed) => {
                 assert!(rt; want == Some(*boxed));
                 match As::<Box<DisplayFromStr>>::serialize(alloc, &boxed, mode) {

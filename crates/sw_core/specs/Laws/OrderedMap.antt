@@ -86,9 +86,6 @@ module _ {P Q : Meaning → Type 0} (R : Order) (o : Ranks P R) where
   ordered_map_lawful k keys l values = ordered_lawful (by_first R) value_replaced (by_first-ranks P Q R o) (value_joins P Q R) (entries_lawful k keys l values)
 
 module _ (P Q : Meaning → Type 0) (R : Order) (f : Meaning → Meaning) (within : (v : Meaning) → Q v → Q (f v)) where
-  normed : Meaning → Meaning
-  normed v = pair_norm (λ x. x) f v
-
   normed-is : (v : Meaning) → IsPairOf P Q v → IsPairOf P Q (pair_norm (λ x. x) f v)
   normed-is (list (meaning a (meaning b no_meanings))) h = (h.0, within b h.1)
   normed-is _ h = absurd h
@@ -117,6 +114,7 @@ module _ (P Q : Meaning → Type 0) (n g f : Meaning → Meaning) where
   pairs_same keys [] h = refl
   pairs_same keys (v ∷ vs) h = λ i. pair_same keys v h.0 i ∷ pairs_same keys vs h.1 i
 
+module _ (P Q : Meaning → Type 0) (f : Meaning → Meaning) where
   pair_exact : ((v : Meaning) → Q v → f v ≡ v) → (v : Meaning) → IsPairOf P Q v → pair_norm (λ x. x) f v ≡ v
   pair_exact values (list (meaning a (meaning b no_meanings))) h = ap (λ x. pair a x) (values b h.1)
   pair_exact values _ h = absurd h
@@ -133,7 +131,7 @@ module _ {P Q : Meaning → Type 0} (R : Order) (o : Ranks P R) {w x : Writes} {
 
   exact : (m : Mode) → grade (key_map e f) m ≡ Exact → IsExact (IsMapOf P R Q) (ordered_map_norm i) m
   exact m g (list vs) h =
-      ap (λ us. list (meanings us)) (each_kept (pair_norm (λ x. x) (i (at_value m))) (IsPairOf P Q) (pair_exact P Q (λ x. x) (λ x. x) (i (at_value m)) (values.exact (at_value m) g)) (parts vs) h.0) ∙ ap list (meanings-parts vs)
+      ap (λ us. list (meanings us)) (each_kept (pair_norm (λ x. x) (i (at_value m))) (IsPairOf P Q) (pair_exact P Q (i (at_value m)) (values.exact (at_value m) g)) (parts vs) h.0) ∙ ap list (meanings-parts vs)
   exact m g _ h = absurd h
 
   -- keys that are exact are told apart as before
