@@ -1,5 +1,5 @@
 -- Pairs that are read as a list, and then put into a map in turn.
-use Rattle.std.proofs.Common.{◌≡◌, ℕ, List, [], map, Result, Ok, Err, refl, sym, ap, ◌∙◌}
+use Rattle.std.proofs.Common.{◌≡◌, ℕ, List, [], map, Result, Ok, Err, sym, ap, ◌∙◌}
 use Rattle.std.specs.declared.cmp.Ordering.{Ordering}
 use Rattle.sw_tree.specs.Meaning.{Meaning, list, meanings, parts-meanings}
 use Rattle.sw_tree.specs.Meant.{list_meaning, pair_meaning}

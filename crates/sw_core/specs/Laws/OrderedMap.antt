@@ -1,6 +1,6 @@
 -- The laws of what is read as a list and put in order, from the list's; and those of a map in the order of its keys.
-use Rattle.std.specs.Prelude.{◌≡◌, List, [], ◌∷◌, map as list_map, true, Bool, Result, Ok, Err}
-use Rattle.std.proofs.Common.{refl, ap, sym, subst, ◌∙◌}
+use Rattle.std.specs.Prelude.{◌≡◌, List, [], ◌∷◌, map as list_map, true, Result, Ok, Err}
+use Rattle.std.proofs.Common.{refl, ap, subst, ◌∙◌}
 use Rattle.std.specs.declared.cmp.Ordering.TheVariants.{Less}
 use Rattle.sw_tree.specs.Meaning.{Meaning, list, meaning, no_meanings, meanings, parts, parts-meanings, meanings-parts}
 use Rattle.sw_tree.specs.Meant.{IsListOf, IsPairOf, pair}
@@ -10,7 +10,6 @@ use Rattle.sw_tree.specs.Ranks.{Order, Ranks}
 use Rattle.sw_tree.specs.Sorted.{Ascends, IsSetOf, IsMapOf, by_first, Join, sorted, value_replaced}
 use Rattle.sw_tree.specs.SortedLaws.{Joins, by_first-ranks, value_joins, sorted-each, sorted-ascends, sorted-same}
 use Rattle.sw_tree.specs.Steps.{bind, bind_ok, Each}
-use Rattle.sw_tree.specs.Tree.{Tree}
 use Rattle.sw_tree.specs.declared.mode.Kind.{Kind}
 use Rattle.sw_tree.specs.declared.mode.Mode.{Mode}
 use Rattle.sw_tree.specs.declared.fail.DeError.{DeError}
@@ -22,8 +21,8 @@ use Rattle.sw_check.specs.SoundForms.{sound-key_map, key_map-map, exact_is}
 use Rattle.sw_check.specs.declared.grade.Grade.TheVariants.{Exact}
 use Rattle.sw_elem.specs.Equations.{Writes, Reads, Spots, Skips, LawfulReading}
 use Rattle.sw_elem.specs.Laws.{Norm, IsExact, NormsWithin}
-use Rattle.sw_elem.specs.Lawful.{Lawful, same_norm}
-use Rattle.sw_core.specs.Entries.{entries_writes, entries_reads, entries_spot, entries_skips, entries_norm, pair_norm}
+use Rattle.sw_elem.specs.Lawful.{Lawful}
+use Rattle.sw_core.specs.Entries.{entries_writes, entries_spot, entries_skips, entries_norm, pair_norm}
 use Rattle.sw_core.specs.OrderedMap.{in_order, ordered_reads, ordered_map_reads, ordered_map_norm}
 use Rattle.sw_core.specs.Laws.Each.{each_kept, each_normed}
 use Rattle.sw_core.specs.Laws.Entries.{entries_lawful, entries_keeps}
