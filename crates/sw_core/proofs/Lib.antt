@@ -1,4 +1,3 @@
-pub mod Logs
 pub mod Rows
 pub mod Places
 pub mod Children

@@ -13,15 +13,11 @@ use Rattle.sw_tree.specs.declared.fail.SerFail.{SerFail}
 use Rattle.sw_tree.specs.declared.fail.SerFail.TheVariants as ser
 use Rattle.sw_tree.specs.declared.fail.WireError.{WireError}
 use Rattle.sw_tree.specs.declared.fail.WireError.TheVariants as wire
-use Rattle.sw_tree.specs.declared.fail.PrintError.{PrintError}
-use Rattle.sw_tree.specs.declared.fail.PrintError.TheVariants as print
 use Rattle.sw_elem.specs.Equations.{Skips}
-use Rattle.sw_elem.specs.Answers.{IsCut}
-use Rattle.sw_tree.specs.declared.fail.SerError.TheVariants as reason
 use Rattle.sw_core.specs.declared.recode.RecodeError.{RecodeError}
 use Rattle.sw_core.specs.declared.recode.RecodeError.TheVariants as fail
-use Rattle.sw_core.specs.Recoding.{wire_error, write_error, print_error, noted, passed_over, IsNoted}
-use Rattle.sw_core.proofs.Logs.{gained_none}
+use Rattle.sw_core.specs.Recoding.{wire_error, write_error, noted, passed_over, IsNoted}
+use Rattle.sw_tree.specs.Laws.Logs.{cut_at_start, cut_at_end}
 
 -- an error that came from a step's
 pub err_is : {T E : Type 0} (x : Result T E) (e : E) → IsErrAnd x (λ r. r ≡ e) → x ≡ Err e
@@ -36,7 +32,7 @@ pub wire_noted : {T : Type 0} (x : Result T RecodeError) (e : WireError) (q : Re
 wire_noted x wire.Syntax q skips log k h = rw (err_is x fail.Syntax k) (none_gained log (passed_over skips q) (rw h refl))
 wire_noted x (wire.NotWhole at) q skips log k h = rw (err_is x (fail.NotWhole at) k) (none_gained log (passed_over skips q) (rw h refl))
 wire_noted x (wire.TooDeep at) q skips log k h = rw (err_is x (fail.TooDeep at) k) (none_gained log (passed_over skips q) (rw h refl))
-wire_noted x wire.Memory q skips log k h = rw (err_is x fail.Memory k) (record { rest = passed_over skips q; gained = gained_none log (passed_over skips q) })
+wire_noted x wire.Memory q skips log k h = rw (err_is x fail.Memory k) (cut_at_start log (passed_over skips q))
 
 placed_notes-root : (t : Tree) (ns : List Note) → placed_notes (record { tree = t; place = 0; counts = true }) ns ≡ noted ns
 placed_notes-root t [] = refl
@@ -48,14 +44,7 @@ pub log_skipped : (q : Result Tree WireError) (t : Tree) (s : Seen) (m : Mode) (
 log_skipped q t s m w skips old new e is mode h =
     h ∙ ap (λ l. old ++ l) (ap (λ (x : Seen). placed_notes x (skips m x.tree)) is ∙ ap (λ x. placed_notes (record { tree = t; place = 0; counts = true }) (skips x t)) mode ∙ placed_notes-root t (skips (plain w) t) ∙ rw e refl)
 
-all_gained : (old gains new : List Refusal) → new ≡ old ++ gains → IsCut old new gains
-all_gained old gains new e = record { rest = []; gained = record { part = gains; log = e; split = sym (append-nil gains) } }
-
 -- behind a reading that gave a value the log has all
 pub write_noted : {T : Type 0} (x : Result T RecodeError) (e : SerFail) (old gains new : List Refusal) → IsErrAnd x (λ r. r ≡ write_error e) → new ≡ old ++ gains → IsNoted x old gains new
 write_noted x (ser.Unwritable r) old gains new k h = rw (err_is x (fail.Unwritable r) k) h
-write_noted x ser.Memory old gains new k h = rw (err_is x fail.Memory k) (all_gained old gains new h)
-
-pub print_noted : {T : Type 0} (x : Result T RecodeError) (e : PrintError) (old gains new : List Refusal) → IsErrAnd x (λ r. r ≡ print_error e) → new ≡ old ++ gains → IsNoted x old gains new
-print_noted x print.Key old gains new k h = rw (err_is x (fail.Unwritable reason.Key) k) h
-print_noted x print.Memory old gains new k h = rw (err_is x fail.Memory k) (all_gained old gains new h)
+write_noted x ser.Memory old gains new k h = rw (err_is x fail.Memory k) (cut_at_end old new gains h)

@@ -5,10 +5,10 @@ use Rattle.sw_tree.specs.Placed.{placed, placed_notes}
 use Rattle.sw_tree.specs.Seen.{Seen}
 use Rattle.sw_tree.specs.Steps.{bind}
 use Rattle.sw_tree.specs.declared.fail.Refusal.{Refusal}
-use Rattle.sw_elem.specs.Answers.{HasGained, IsCut}
+use Rattle.sw_tree.specs.Logged.{HasGained, IsCut}
 use Rattle.sw_core.specs.Inner.Rows.{seen_reads, seen_logs, seen_turns, both, all_both}
 use Rattle.sw_core.specs.Rows.{Reader, each_by, turns_by}
-use Rattle.sw_core.proofs.Logs.{gained_none, gained_more, cut_here, cut_within}
+use Rattle.sw_tree.specs.Laws.Logs.{gained_none, gained_more, cut_here, cut_within}
 
 -- what a whole row gives, where its first part gave ys
 abbrev pub prefixed : {B E : Type 0} → List B → Result (List B) E → Result (List B) E

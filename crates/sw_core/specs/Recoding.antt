@@ -1,6 +1,8 @@
 -- What recoding answers, and what it logs, as functions of the bytes.
-use Rattle.std.specs.Prelude.{◌≡◌, ℕ, List, [], ◌++◌, map, Option, Some, None, Result, Ok, Err, Vec}
+use Rattle.std.specs.Prelude.{ℕ, List, [], map, Option, Some, None, Result, Ok, Err, Vec}
 use Rattle.std.specs.declared.alloc.Global.{Global}
+use Rattle.sw_tree.specs.Answered.{Answered}
+use Rattle.sw_tree.specs.Logged.{Logged}
 use Rattle.sw_tree.specs.Meaning.{Meaning}
 use Rattle.sw_tree.specs.Mode.{plain}
 use Rattle.sw_tree.specs.Placed.{Note}
@@ -21,7 +23,6 @@ use Rattle.sw_tree.specs.declared.fail.WireError.TheVariants as wire
 use Rattle.sw_tree.specs.declared.fail.PrintError.{PrintError}
 use Rattle.sw_tree.specs.declared.fail.PrintError.TheVariants as print
 use Rattle.sw_elem.specs.Equations.{Writes, Reads, Spots, Skips}
-use Rattle.sw_elem.specs.Answers.{IsCut}
 use Rattle.sw_core.specs.declared.recode.RecodeError.{RecodeError}
 use Rattle.sw_core.specs.declared.recode.RecodeError.TheVariants as fail
 
@@ -73,17 +74,18 @@ passed_over skips (Err e) = []
 abbrev pub skipped : Skips → WireKind → Spelled → List ℕ → List Refusal
 skipped skips w spelled bytes = passed_over (skips (plain w)) (spelled bytes)
 
+-- the cause that an error of recoding tells
+abbrev pub recode_cause : RecodeError → Option RecodeError
+recode_cause fail.Memory = None
+recode_cause e = Some e
+
 -- the answer, or want of memory
 abbrev pub IsRecoded : {T : Type 0} → (T → Meaning) → Result (T × Vec ℕ Global) RecodeError → Result (Meaning × List ℕ) RecodeError → Type 0
-IsRecoded f (Ok p) r = r ≡ Ok (f p.0, p.1.items)
-IsRecoded f (Err fail.Memory) r = Unit {0}
-IsRecoded f (Err e) r = r ≡ Err e
+IsRecoded {T} f = Answered (λ (p : T × Vec ℕ Global). (f p.0, p.1.items)) recode_cause
 
 -- the log has gained those refusals, of which want of memory may leave some out at the end
 abbrev pub IsNoted : {T : Type 0} → Result T RecodeError → List Refusal → List Refusal → List Refusal → Type 0
-IsNoted (Ok x) old gains new = new ≡ old ++ gains
-IsNoted (Err fail.Memory) old gains new = IsCut old new gains
-IsNoted (Err e) old gains new = new ≡ old ++ gains
+IsNoted = Logged recode_cause
 
 -- the errors of recoding for those of its steps
 abbrev pub read_error : DeFail → RecodeError

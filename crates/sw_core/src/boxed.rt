@@ -1,4 +1,4 @@
-#![tactic(auto, using(crate::proofs::Logs::gains))]
+#![tactic(auto, using(sw_tree::specs::Laws::Logs::gains))]
 
 use crate::adapter::{Adapter, DeserializeAs, SerializeAs};
 use std::alloc::{AllocError, Global};

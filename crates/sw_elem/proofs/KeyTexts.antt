@@ -46,16 +46,9 @@ refused_first : {A B : Type 0} (s : Seen) (n : ℕ) (r : Result A DeError) (g : 
 refused_first s n (Ok x) g e h = absurd (cc)
 refused_first s n (Err d) g e h = let k : e ≡ record { error = d; place = place_at s n } = cc in ap Err (sym k)
 
-read_first : {A B : Type 0} (s : Seen) (n : ℕ) (r : Result A DeError) (g : A → Result B DeError) (x : A) → Ok x ≡ placed_at s n r → placed_at s n (bind r g) ≡ placed_at s n (g x)
-read_first s n (Ok y) g x h = let k : x ≡ y = cc in ap (λ z. placed_at s n (g z)) (sym k)
-read_first s n (Err d) g x h = absurd (cc)
-
 -- what a reader makes of what was read first
 module _ {A B : Type 0} (f : Mode → Tree → Result A DeError) (g : A → Result B DeError) (m : Mode) (s : Seen) where
   pub then_refused : (e : Refusal) → Err e ≡ placed (f m) (own_spot m) s → placed (λ t. bind (f m t) g) (own_spot m) s ≡ Err e
   then_refused e h = refused_first s 0 (f m s.tree) g e h
-
-  pub then_read : (x : A) → Ok x ≡ placed (f m) (own_spot m) s → placed (λ t. bind (f m t) g) (own_spot m) s ≡ placed_at s 0 (g x)
-  then_read x h = read_first s 0 (f m s.tree) g x h
 
 pub ruleset keyed = (keyed-own, keyed-named, keyed-none)

@@ -1,10 +1,11 @@
 -- The laws of trees by themselves.
-use Rattle.std.specs.Prelude.{◌≡◌, ℕ, zero, suc, ◌+◌, List, [], ◌∷◌, ◌++◌, length, Bool, true, false, ◌&&◌, Option, Some, None, is_none, option_map, Ok, Err}
-use Rattle.std.proofs.Common.{refl, ap, sym, ◌∙◌, subst, arith}
+use Rattle.std.specs.Prelude.{◌≡◌, ℕ, ◌+◌, List, [], ◌∷◌, ◌++◌, length, Bool, true, false, ◌&&◌, Option, Some, None, is_none, option_map, Ok, Err}
+use Rattle.std.proofs.Common.{refl, ap, sym, ◌∙◌, subst}
 use Rattle.std.specs.Option.{option_or}
 use Rattle.std.proofs.lemmas.Bool.{and_parts}
 use Rattle.sw_tree.specs.Image.{value_image, trees_image, entries_image, key_image, next_tree, next_entry}
 use Rattle.sw_tree.specs.Kinds.{has}
+use Rattle.sw_tree.specs.Laws.Nodes.{kind_before, kind_behind}
 use Rattle.sw_tree.specs.Meaning.{Meaning}
 use Rattle.sw_tree.specs.Meaning as meaning
 use Rattle.sw_tree.specs.Nodes.{kinds, trees_kinds, entries_kinds, HasKind, kinds-size}
@@ -34,24 +35,13 @@ abbrev IsAmong : List Kind → Option Foreign → Type 0
 IsAmong ks None = Unit {0}
 IsAmong ks (Some f) = HasKind ks f.number f.kind
 
-HasKind-before : (ks ls : List Kind) (n : ℕ) (k : Kind) → HasKind ks n k → HasKind (ks ++ ls) n k
-HasKind-before [] ls n k h = absurd (cc)
-HasKind-before (j ∷ ks) ls zero k h = h
-HasKind-before (j ∷ ks) ls (suc n) k h = HasKind-before ks ls n k h
-
-HasKind-behind : (ks ls : List Kind) (n : ℕ) (k : Kind) → HasKind ls n k → HasKind (ks ++ ls) (length ks + n) k
-HasKind-behind [] ls n k h = let e : n ≡ 0 + n = omega arith in subst (λ (i : ℕ). HasKind ls i k) e h
-HasKind-behind (j ∷ ks) ls n k h =
-    let e : suc (length ks + n) ≡ suc (length ks) + n = omega arith in
-    subst (λ (i : ℕ). HasKind (j ∷ (ks ++ ls)) i k) e (HasKind-behind ks ls n k h)
-
 before : (ks ls : List Kind) (o : Option Foreign) → IsAmong ks o → IsAmong (ks ++ ls) o
 before ks ls None h = tt
-before ks ls (Some f) h = HasKind-before ks ls f.number f.kind h
+before ks ls (Some f) h = kind_before ks ls f.number f.kind h
 
 behind : (ks ls : List Kind) (n : ℕ) (o : Option Foreign) → length ks ≡ n → IsAmong ls o → IsAmong (ks ++ ls) (further n o)
 behind ks ls n None e h = tt
-behind ks ls n (Some f) e h = subst (λ (i : ℕ). HasKind (ks ++ ls) (i + f.number) f.kind) e (HasKind-behind ks ls f.number f.kind h)
+behind ks ls n (Some f) e h = subst (λ (i : ℕ). HasKind (ks ++ ls) (i + f.number) f.kind) e (kind_behind ks ls f.number f.kind h)
 
 either : (ks : List Kind) (a b : Option Foreign) → IsAmong ks a → IsAmong ks b → IsAmong ks (option_or a b)
 either ks None b h k = k

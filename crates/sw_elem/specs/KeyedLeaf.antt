@@ -6,6 +6,7 @@ use Rattle.std.specs.Fmt.{signed_decimal}
 use mir.Val.{hbits}
 use Rattle.std.specs.Int.{Width}
 use Rattle.std.proofs.lemmas.Bool.Decides.{Decides-ltb}
+use Rattle.sw_tree.specs.Laws.Nodes.{own_kind}
 use Rattle.sw_tree.specs.Image.{bool_text}
 use Rattle.sw_tree.specs.Kinds.{has}
 use Rattle.sw_tree.specs.Meaning.{Meaning, number, truth}
@@ -34,7 +35,7 @@ use Rattle.sw_elem.specs.Facts.{only, either, stands, keyed, number_facts, truth
 use Rattle.sw_elem.specs.KeyPlace.{is_plain_key, key_text, keyed_reads}
 use Rattle.sw_elem.specs.Laws.{HasSpotKinds}
 use Rattle.sw_elem.specs.Lawful.{LawfulLeaf, same_norm}
-use Rattle.sw_elem.specs.Leaf.{IsBack, IsLeaf, own_kind, keeps_leaf}
+use Rattle.sw_elem.specs.Leaf.{IsBack, IsLeaf, keeps_leaf}
 use Rattle.sw_elem.specs.Numbers.{number_writes, is_below, is_within, ranged, number_reads}
 use Rattle.sw_elem.specs.Truths.{truth_named, truth_writes, truth_reads}
 

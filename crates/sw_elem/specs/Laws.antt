@@ -4,7 +4,7 @@ use Rattle.sw_tree.specs.Image.{image}
 use Rattle.sw_tree.specs.Meaning.{Meaning}
 use Rattle.sw_tree.specs.Mode.{marked}
 use Rattle.sw_tree.specs.Steps.{Each}
-use Rattle.sw_tree.specs.Tree.{Tree, kind_of}
+use Rattle.sw_tree.specs.Tree.{Tree}
 use Rattle.sw_tree.specs.declared.mode.Kind.{Kind}
 use Rattle.sw_tree.specs.declared.mode.Mode.{Mode}
 use Rattle.sw_tree.specs.declared.fail.SerError.TheVariants.{Key}
@@ -28,13 +28,6 @@ ReadsBack P writes reads norm m = (v : Meaning) (t i : Tree) → P v → writes 
 -- nothing is refused for a key without an image
 abbrev pub NeverKey : (Meaning → Type 0) → Writes → Mode → Type 0
 NeverKey P writes m = (v : Meaning) → P v → writes m v ≡ Err Key → ⊥
-
--- what is written, and what is read, has that kind
-abbrev pub WritesKind : (Meaning → Type 0) → Writes → Mode → Kind → Type 0
-WritesKind P writes m k = (v : Meaning) (t : Tree) → P v → writes m v ≡ Ok t → kind_of t ≡ k
-
-abbrev pub ReadsKind : Reads → Mode → Kind → Type 0
-ReadsKind reads m k = (t : Tree) (v : Meaning) → reads m t ≡ Ok v → kind_of t ≡ k
 
 -- the buffered mark changes nothing that is written
 abbrev pub IsUnmarked : Writes → Type 0

@@ -4,6 +4,7 @@ use Rattle.std.proofs.Common.{refl, ap, sym, subst, arith}
 use Rattle.std.specs.Str.{IsUtf8}
 use Rattle.std.proofs.lemmas.Str.{IsUtf8-from_is_utf8, IsUtf8-encode}
 use Rattle.std.specs.Option.{ok_or}
+use Rattle.sw_tree.specs.Laws.Nodes.{own_kind}
 use Rattle.sw_tree.specs.Kinds.{has}
 use Rattle.sw_tree.specs.Meaning.{Meaning, nothing, text}
 use Rattle.sw_tree.specs.Proper.{IsNodeTree}
@@ -24,7 +25,7 @@ use Rattle.sw_elem.specs.Equations.{own_spot}
 use Rattle.sw_elem.specs.Facts.{only, stands, text_facts, nothing_facts}
 use Rattle.sw_elem.specs.Laws.{HasSpotKinds}
 use Rattle.sw_elem.specs.Lawful.{LawfulLeaf, same_norm}
-use Rattle.sw_elem.specs.Leaf.{IsBack, IsLeaf, own_kind, everywhere_read, keeps_leaf}
+use Rattle.sw_elem.specs.Leaf.{IsBack, IsLeaf, everywhere_read, keeps_leaf}
 use Rattle.sw_elem.specs.TextLaws.{text_lawful, character_lawful}
 use Rattle.sw_elem.specs.Texts.{text_writes, texted_reads, text_shows, text_parses, text_reads, character_parses, character_reads, nothing_writes, nothing_at, nothing_reads}
 

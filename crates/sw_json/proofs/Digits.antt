@@ -1,5 +1,5 @@
 -- The digits of a number stand for themselves in a text.
-use Rattle.std.proofs.Common.{◌≡◌, ℕ, suc, zero, ◌+◌, ◌/◌, ◌%◌, ◌<◌, ◌^◌, ℤ, pos, negsuc, Bool, true, false, cond, eqb, ltb, leb, List, [], ◌∷◌, ◌++◌, refl, ap, sym, subst, ◌∙◌, arith, Some, None, Result}
+use Rattle.std.proofs.Common.{◌≡◌, ℕ, suc, zero, ◌+◌, ◌/◌, ◌%◌, ◌<◌, ℤ, pos, negsuc, Bool, true, false, cond, eqb, ltb, leb, List, [], ◌∷◌, ◌++◌, refl, ap, sym, subst, ◌∙◌, arith, Some, Result}
 use Rattle.std.proofs.lemmas.Bool.Decides.{nat_tests}
 use Rattle.std.specs.Fmt.{digits, digits_onto, digit_glyph, decimal, signed_decimal}
 use Rattle.sw_tree.specs.Tree.{int, text}
@@ -9,7 +9,6 @@ use Rattle.sw_json.specs.Pushed.{IsPushed}
 use Rattle.sw_tree.specs.declared.fail.PrintError.{PrintError}
 use Rattle.sw_json.specs.Laws.Texts.{quoted_text}
 use Rattle.sw_json.proofs.Runs.{escape_plain}
-use Rattle.sw_tree.specs.Whole.{signed_of}
 use Rattle.sw_json.specs.declared.turn.Turn.{Turn}
 use Rattle.sw_json.specs.declared.turn.Turn.TheVariants.{Root, First, Item, FirstKey, Key, Value}
 use Rattle.sw_json.specs.Turns.{is_key, separator, piece}
@@ -89,12 +88,3 @@ digits_part turn n = text_part turn (signed_decimal n) (signed_decimal n) (digit
 -- the number as a key, behind the separator
 pub key_part : (turn : Turn) (n : ℤ) → is_key turn ≡ true → Some (separator turn ++ 34 ∷ (signed_decimal n ++ 34 ∷ [])) ≡ joined (Some (separator turn)) (piece turn (int n))
 key_part turn n h = ap (joined (Some (separator turn))) (digits_text n (signed_decimal n) refl ∙ same_key turn n h)
-
-signed_at : (b : Bool) (z y : ℤ) → cond b (Some z) None ≡ Some y → y ≡ z
-signed_at true z y h = cc
-signed_at false z y h = cc
-
--- what has few bits is the number itself
-pub signed_is : (k : ℕ) (z y : ℤ) → signed_of k z ≡ Some y → y ≡ z
-signed_is k (pos n) y h = signed_at (ltb n (2 ^ k)) (pos n) y h
-signed_is k (negsuc n) y h = signed_at (ltb n (2 ^ k)) (negsuc n) y h

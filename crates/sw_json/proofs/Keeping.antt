@@ -3,6 +3,7 @@ use Rattle.std.proofs.Common.{◌≡◌, ℕ, List, ◌++◌, Bool, true, false,
 use Rattle.std.proofs.lemmas.List.{reverse-append}
 use Rattle.sw_tree.specs.declared.fail.PrintError.{PrintError}
 use Rattle.sw_tree.specs.declared.fail.PrintError.TheVariants.{Key, Memory}
+use Rattle.sw_json.proofs.Pushing.{none_onto}
 use Rattle.sw_json.specs.Pushed.{IsPushed, joined}
 use Rattle.sw_json.specs.Kept.{IsKept}
 use Rattle.sw_json.specs.Written.{shown}
@@ -20,7 +21,7 @@ pub shown_kept : (pushed : Result (Unit {0}) PrintError) (u : Unit {0}) (lost lo
     → shown lost' after ≡ joined (shown lost before) r
 shown_kept (Ok v) u true lost' before after r h k = rw k refl
 shown_kept (Ok v) u false lost' before after r h k = rw k (sym h ∙ onto-shown before r)
-shown_kept (Err Key) u lost lost' before after r h k = rw (k, h) (sym (void (shown lost before)))
+shown_kept (Err Key) u lost lost' before after r h k = rw (k, none_onto before r h) (sym (void (shown lost before)))
 shown_kept (Err Memory) u lost lost' before after r h k = absurd k
 
 pub ruleset keeping = (shown_kept, reverse-append)

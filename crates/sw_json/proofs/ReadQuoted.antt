@@ -11,7 +11,8 @@ use Rattle.sw_json.specs.QuotedParts.{spelling_in, text_in, is_escaped, parts}
 use Rattle.sw_json.specs.Unescaping.{unescaped}
 use Rattle.sw_json.specs.declared.quoted.Quoted.{Quoted}
 use Rattle.sw_json.specs.Laws.Fronts.{split, front_passes, behind_is}
-use Rattle.sw_json.specs.Laws.Quoting.{the_some, none_some, spelling_taken, quoted_taken, unescaped_plain, plain_has_none}
+use Rattle.sw_tree.specs.Laws.Options.{some_is, none_some}
+use Rattle.sw_json.specs.Laws.Quoting.{spelling_taken, quoted_taken, unescaped_plain, plain_has_none}
 use Rattle.sw_json.proofs.Unescapes.{before_none, run_more, closed_there, ended_there, stuck_there}
 
 abbrev pub Shown : Type 0
@@ -99,7 +100,7 @@ is_slashed buffer bytes back b (Some x) met e h v =
     v ∙ sym (has_slash bytes (spelling_in x.0) (text_in buffer x.0) back x.1.now (met ∙ ap (λ y. y ∷ back) e) (sym h))
 
 spelling_run : (b : Bool) (s t k run rest : List ℕ) → ◌≡◌ {A = Shown} (Some (s, (t, k))) (cond b (Some (run, (run, rest))) None) → s ≡ run
-spelling_run true s t k run rest h = ap (λ w. w.0) (the_some h)
+spelling_run true s t k run rest h = ap (λ w. w.0) (some_is h)
 spelling_run false s t k run rest h = absurd (none_some (sym h))
 
 -- a text that a first run spells has no backslash

@@ -4,6 +4,7 @@ use Rattle.std.proofs.lemmas.Bool.Decides.{nat_tests}
 use Rattle.std.proofs.lemmas.Bool.{lt-ltb, le-leb}
 use Rattle.std.specs.Prelude.{neg_ℤ, ◌&&◌}
 use Rattle.std.specs.List.{list_all}
+use Rattle.sw_json.specs.Laws.Numbers.{leading_digit}
 use Rattle.sw_tree.specs.Number.{value_from, value_of, whole_of}
 use Rattle.sw_json.specs.Token.{Token}
 use Rattle.sw_json.specs.Bytes.{is_digit, is_leading, front, behind}
@@ -15,10 +16,6 @@ use Rattle.sw_json.specs.Laws.Lexemes.{found}
 use Rattle.sw_json.specs.Laws.WholeNumbers.{digits_value}
 
 -- ---- the first digit
-
-leading_digit : (b : ℕ) → is_leading b ≡ true → is_digit b ≡ true
-unfolding is_leading is_digit
-leading_digit b h = grind (arith, nat_tests)
 
 leading_counts : (b : ℕ) → is_leading b ≡ true → 0 < b - 48
 unfolding is_leading

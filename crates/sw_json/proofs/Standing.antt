@@ -2,7 +2,8 @@
 use Rattle.std.proofs.Common.{◌≡◌, ℕ, ℤ, suc, ◌+◌, ◌*◌, ◌%◌, add-zero, List, [], ◌∷◌, ◌++◌, length, length-append, Option, Some, None, Bool, true, false, cond, refl, ap, sym, ◌∙◌, arith}
 use Rattle.std.specs.Prelude.{option_map, nat_lt}
 use Rattle.std.specs.Option.{option_or}
-use Rattle.sw_tree.specs.Tree.{Tree, trees, entries, turns}
+use Rattle.sw_tree.specs.Laws.Options.{some_is, none_some}
+use Rattle.sw_tree.specs.Tree.{Tree, trees, entries, turns, by_turns}
 use Rattle.sw_tree.specs.Faults as faulted
 use Rattle.sw_tree.specs.Faults.{first, number_fault, level_fault}
 use Rattle.sw_tree.specs.Tree as tree
@@ -23,16 +24,6 @@ use Rattle.sw_json.specs.declared.place.Place.{Place}
 use Rattle.sw_json.specs.declared.place.Place.TheVariants.{Value, FreshList, FreshMap, Name, Colon, After}
 use Rattle.sw_json.specs.declared.place.Open.{Open}
 use Rattle.sw_json.specs.declared.place.Open.TheVariants.{List as OfList, Map as OfMap}
-
-pub the_some : {A : Type 0} {x y : A} → Some x ≡ Some y → x ≡ y
-the_some h = cc
-
-none_some : {A : Type 0} {x : A} → None ≡ Some x → ⊥
-none_some h = cc
-
-pub none_or_some : {A B : Type 0} (f : A → B) (o : Option A) (x : B) → option_map f o ≡ Some x → (y : A) × (o ≡ Some y) × (f y ≡ x)
-none_or_some f None x h = cc
-none_or_some f (Some y) x h = (y, refl, cc)
 
 pub is_none : {A B : Type 0} (f : A → B) (o : Option A) → option_map f o ≡ None → o ≡ None
 is_none f None h = refl
@@ -135,11 +126,6 @@ entries-wholes : (es : RawEntries) → faulted.whole_entries (entries_shape es) 
 entries-wholes no_entries = refl
 entries-wholes (entry q r es) = ap (tree.entry (tree.text q.text) (whole r)) (entries-wholes es)
 
--- the keys and values by turns
-abbrev flat : List (Tree × Tree) → List Tree
-flat [] = []
-flat (e ∷ es) = e.0 ∷ e.1 ∷ flat es
-
 wholes-push : (rs : RawItems) (r : Raw) → wholes (push rs r) ≡ wholes rs ++ whole r ∷ []
 wholes-push no_items r = refl
 wholes-push (item q qs) r = ap (λ x. whole q ∷ x) (wholes-push qs r)
@@ -148,24 +134,24 @@ whole_entries-enter : (es : RawEntries) (q : Quote) (r : Raw) → whole_entries 
 whole_entries-enter no_entries q r = refl
 whole_entries-enter (entry j p es) q r = ap (λ x. (tree.text j.text, whole p) ∷ x) (whole_entries-enter es q r)
 
-turns-flat : (es : List (Tree × Tree)) (k v : Tree) → turns ((flat es ++ k ∷ []) ++ v ∷ []) ≡ es ++ (k, v) ∷ []
-turns-flat [] k v = refl
-turns-flat (e ∷ es) k v = ap (λ x. e ∷ x) (turns-flat es k v)
+turns-push : (es : List (Tree × Tree)) (k v : Tree) → turns ((by_turns es ++ k ∷ []) ++ v ∷ []) ≡ es ++ (k, v) ∷ []
+turns-push [] k v = refl
+turns-push (e ∷ es) k v = ap (λ x. e ∷ x) (turns-push es k v)
 
-flat-append : (es : List (Tree × Tree)) (k v : Tree) → flat (es ++ (k, v) ∷ []) ≡ (flat es ++ k ∷ []) ++ v ∷ []
-flat-append [] k v = refl
-flat-append (e ∷ es) k v = ap (λ x. e.0 ∷ e.1 ∷ x) (flat-append es k v)
+by_turns-append : (es : List (Tree × Tree)) (k v : Tree) → by_turns (es ++ (k, v) ∷ []) ≡ (by_turns es ++ k ∷ []) ++ v ∷ []
+by_turns-append [] k v = refl
+by_turns-append (e ∷ es) k v = ap (λ x. e.0 ∷ e.1 ∷ x) (by_turns-append es k v)
 
-length-flat : (es : List (Tree × Tree)) → length (flat es) ≡ 2 * length es
-length-flat [] = refl
-length-flat (e ∷ es) = omega (arith, length-flat es)
+by_turns-length : (es : List (Tree × Tree)) → length (by_turns es) ≡ 2 * length es
+by_turns-length [] = refl
+by_turns-length (e ∷ es) = omega (arith, by_turns-length es)
 
-even-flat : (es : List (Tree × Tree)) (k v : Tree) → length ((flat es ++ k ∷ []) ++ v ∷ []) % 2 ≡ 0
-even-flat es k v = omega (arith, length-append (flat es ++ k ∷ []) (v ∷ []), length-append (flat es) (k ∷ []), length-flat es)
+even-push : (es : List (Tree × Tree)) (k v : Tree) → length ((by_turns es ++ k ∷ []) ++ v ∷ []) % 2 ≡ 0
+even-push es k v = omega (arith, length-append (by_turns es ++ k ∷ []) (v ∷ []), length-append (by_turns es) (k ∷ []), by_turns-length es)
 
 abbrev pub frame_of : Level → Frame
 frame_of (in_list at rs) = record { is_map = false; children = wholes rs }
-frame_of (in_map at es q) = record { is_map = true; children = flat (whole_entries es) ++ tree.text q.text ∷ [] }
+frame_of (in_map at es q) = record { is_map = true; children = by_turns (whole_entries es) ++ tree.text q.text ∷ [] }
 
 abbrev pub frames_of : List Level → List Frame
 frames_of [] = []
@@ -179,8 +165,8 @@ abbrev pub base : List ℕ → ℕ → State → Built
 base input n (value ls) = open_frames input n (frames_of ls)
 base input n (fresh_list at ls) = open_frames input n (record { is_map = false; children = [] } ∷ frames_of ls)
 base input n (fresh_map at ls) = open_frames input n (record { is_map = true; children = [] } ∷ frames_of ls)
-base input n (name at es ls) = open_frames input n (record { is_map = true; children = flat (whole_entries es) } ∷ frames_of ls)
-base input n (colon at es q ls) = open_frames input n (record { is_map = true; children = flat (whole_entries es) ++ tree.text q.text ∷ [] } ∷ frames_of ls)
+base input n (name at es ls) = open_frames input n (record { is_map = true; children = by_turns (whole_entries es) } ∷ frames_of ls)
+base input n (colon at es q ls) = open_frames input n (record { is_map = true; children = by_turns (whole_entries es) ++ tree.text q.text ∷ [] } ∷ frames_of ls)
 base input n (after r ls) = added (open_frames input n (frames_of ls)) (whole r)
 
 -- what is built with the token but for what is copied
@@ -189,12 +175,12 @@ core (Token.text q) b = added b (tree.text q.text)
 core t b = effect t b
 
 core_value : (input : List ℕ) (n : ℕ) (ls : List Level) (t : Token) (next : State) → step_value ls t ≡ Some next → base input n next ≡ core t (open_frames input n (frames_of ls))
-core_value input n ls (Token.null at) next h = ap (base input n) (sym (the_some h))
-core_value input n ls (Token.truth at b) next h = ap (base input n) (sym (the_some h))
-core_value input n ls (Token.number at s) next h = ap (base input n) (sym (the_some h))
-core_value input n ls (Token.text q) next h = ap (base input n) (sym (the_some h))
-core_value input n ls (Token.open_list at) next h = ap (base input n) (sym (the_some h))
-core_value input n ls (Token.open_map at) next h = ap (base input n) (sym (the_some h))
+core_value input n ls (Token.null at) next h = ap (base input n) (sym (some_is h))
+core_value input n ls (Token.truth at b) next h = ap (base input n) (sym (some_is h))
+core_value input n ls (Token.number at s) next h = ap (base input n) (sym (some_is h))
+core_value input n ls (Token.text q) next h = ap (base input n) (sym (some_is h))
+core_value input n ls (Token.open_list at) next h = ap (base input n) (sym (some_is h))
+core_value input n ls (Token.open_map at) next h = ap (base input n) (sym (some_is h))
 core_value input n ls t next h = absurd (none_some h)
 
 -- where a tree is added says nothing of the frames that were open
@@ -204,20 +190,20 @@ same_added input n xs ys (f ∷ fs) t u e = ap (λ (z : Tree). open_frames input
 
 core_fresh_list : (input : List ℕ) (n at : ℕ) (ls : List Level) (t : Token) (next : State) → step_fresh_list at ls t ≡ Some next → base input n next ≡ core t (base input n (fresh_list at ls))
 core_fresh_list input n at ls Token.close_list next h =
-    ap (base input n) (sym (the_some h)) ∙ same_added input n (frames_of ls) (record { is_map = false; children = [] } ∷ frames_of ls) (frames_of ls) _ _ refl
+    ap (base input n) (sym (some_is h)) ∙ same_added input n (frames_of ls) (record { is_map = false; children = [] } ∷ frames_of ls) (frames_of ls) _ _ refl
 core_fresh_list input n at ls t next h = core_value input n (in_list at no_items ∷ ls) t next h
 
 core_name : (input : List ℕ) (n at : ℕ) (es : RawEntries) (ls : List Level) (t : Token) (next : State) → step_name at es ls t ≡ Some next → base input n next ≡ core t (base input n (name at es ls))
-core_name input n at es ls (Token.text q) next h = ap (base input n) (sym (the_some h))
+core_name input n at es ls (Token.text q) next h = ap (base input n) (sym (some_is h))
 core_name input n at es ls t next h = absurd (none_some h)
 
 core_fresh_map : (input : List ℕ) (n at : ℕ) (ls : List Level) (t : Token) (next : State) → step_fresh_map at ls t ≡ Some next → base input n next ≡ core t (base input n (fresh_map at ls))
 core_fresh_map input n at ls Token.close_map next h =
-    ap (base input n) (sym (the_some h)) ∙ same_added input n (frames_of ls) (record { is_map = true; children = [] } ∷ frames_of ls) (frames_of ls) _ _ refl
+    ap (base input n) (sym (some_is h)) ∙ same_added input n (frames_of ls) (record { is_map = true; children = [] } ∷ frames_of ls) (frames_of ls) _ _ refl
 core_fresh_map input n at ls t next h = core_name input n at no_entries ls t next h
 
 core_colon : (input : List ℕ) (n at : ℕ) (es : RawEntries) (q : Quote) (ls : List Level) (t : Token) (next : State) → step_colon at es q ls t ≡ Some next → base input n next ≡ core t (base input n (colon at es q ls))
-core_colon input n at es q ls Token.colon next h = ap (base input n) (sym (the_some h))
+core_colon input n at es q ls Token.colon next h = ap (base input n) (sym (some_is h))
 core_colon input n at es q ls t next h = absurd (none_some h)
 
 closes_list : (input : List ℕ) (n at : ℕ) (r : Raw) (rs : RawItems) (ls : List Level) → base input n (after (raw.list at (push rs r)) ls) ≡ closed (base input n (after r (in_list at rs ∷ ls)))
@@ -226,19 +212,19 @@ closes_list input n at r rs ls =
 
 closes_map : (input : List ℕ) (n at : ℕ) (r : Raw) (es : RawEntries) (q : Quote) (ls : List Level) → base input n (after (raw.map at (enter es q r)) ls) ≡ closed (base input n (after r (in_map at es q ∷ ls)))
 closes_map input n at r es q ls =
-    same_added input n (frames_of ls) (record { is_map = true; children = (flat (whole_entries es) ++ tree.text q.text ∷ []) ++ whole r ∷ [] } ∷ frames_of ls) (frames_of ls) _ _
-    (ap tree.map (entries-wholes (enter es q r) ∙ ap entries (whole_entries-enter es q r ∙ sym (turns-flat (whole_entries es) (tree.text q.text) (whole r)))))
+    same_added input n (frames_of ls) (record { is_map = true; children = (by_turns (whole_entries es) ++ tree.text q.text ∷ []) ++ whole r ∷ [] } ∷ frames_of ls) (frames_of ls) _ _
+    (ap tree.map (entries-wholes (enter es q r) ∙ ap entries (whole_entries-enter es q r ∙ sym (turns-push (whole_entries es) (tree.text q.text) (whole r)))))
 
 enters : (input : List ℕ) (n at : ℕ) (r : Raw) (es : RawEntries) (q : Quote) (ls : List Level) → base input n (name at (enter es q r) ls) ≡ base input n (after r (in_map at es q ∷ ls))
 enters input n at r es q ls =
-    ap (λ (x : List Tree). open_frames input n (record { is_map = true; children = x } ∷ frames_of ls)) (ap flat (whole_entries-enter es q r) ∙ flat-append (whole_entries es) (tree.text q.text) (whole r))
+    ap (λ (x : List Tree). open_frames input n (record { is_map = true; children = x } ∷ frames_of ls)) (ap by_turns (whole_entries-enter es q r) ∙ by_turns-append (whole_entries es) (tree.text q.text) (whole r))
 
 core_after : (input : List ℕ) (n : ℕ) (r : Raw) (l : Level) (ls : List Level) (t : Token) (next : State) → step_after r l ls t ≡ Some next → base input n next ≡ core t (base input n (after r (l ∷ ls)))
-core_after input n r (in_list at rs) ls Token.close_list next h = ap (base input n) (sym (the_some h)) ∙ closes_list input n at r rs ls
+core_after input n r (in_list at rs) ls Token.close_list next h = ap (base input n) (sym (some_is h)) ∙ closes_list input n at r rs ls
 core_after input n r (in_list at rs) ls Token.comma next h =
-    ap (base input n) (sym (the_some h)) ∙ ap (λ (x : List Tree). open_frames input n (record { is_map = false; children = x } ∷ frames_of ls)) (wholes-push rs r)
-core_after input n r (in_map at es q) ls Token.close_map next h = ap (base input n) (sym (the_some h)) ∙ closes_map input n at r es q ls
-core_after input n r (in_map at es q) ls Token.comma next h = ap (base input n) (sym (the_some h)) ∙ enters input n at r es q ls
+    ap (base input n) (sym (some_is h)) ∙ ap (λ (x : List Tree). open_frames input n (record { is_map = false; children = x } ∷ frames_of ls)) (wholes-push rs r)
+core_after input n r (in_map at es q) ls Token.close_map next h = ap (base input n) (sym (some_is h)) ∙ closes_map input n at r es q ls
+core_after input n r (in_map at es q) ls Token.comma next h = ap (base input n) (sym (some_is h)) ∙ enters input n at r es q ls
 core_after input n r l ls t next h = absurd (none_some h)
 
 core_step : (input : List ℕ) (n : ℕ) (s : State) (t : Token) (next : State) → step s t ≡ Some next → base input n next ≡ core t (base input n s)
@@ -308,35 +294,35 @@ entries_escaped-enter no_entries q r = omega arith
 entries_escaped-enter (entry j p es) q r = omega (arith, entries_escaped-enter es q r)
 
 side_value : (ls : List Level) (t : Token) (next : State) → step_value ls t ≡ Some next → side_of next ≡ levels_escaped ls + token_escaped t
-side_value ls (Token.null at) next h = ap side_of (sym (the_some h))
-side_value ls (Token.truth at b) next h = ap side_of (sym (the_some h))
-side_value ls (Token.number at s) next h = ap side_of (sym (the_some h))
-side_value ls (Token.text q) next h = ap side_of (sym (the_some h))
-side_value ls (Token.open_list at) next h = omega (arith, ap side_of (the_some h))
-side_value ls (Token.open_map at) next h = omega (arith, ap side_of (the_some h))
+side_value ls (Token.null at) next h = ap side_of (sym (some_is h))
+side_value ls (Token.truth at b) next h = ap side_of (sym (some_is h))
+side_value ls (Token.number at s) next h = ap side_of (sym (some_is h))
+side_value ls (Token.text q) next h = ap side_of (sym (some_is h))
+side_value ls (Token.open_list at) next h = omega (arith, ap side_of (some_is h))
+side_value ls (Token.open_map at) next h = omega (arith, ap side_of (some_is h))
 side_value ls t next h = absurd (none_some h)
 
 side_fresh_list : (at : ℕ) (ls : List Level) (t : Token) (next : State) → step_fresh_list at ls t ≡ Some next → side_of next ≡ levels_escaped ls + token_escaped t
-side_fresh_list at ls Token.close_list next h = ap side_of (sym (the_some h))
+side_fresh_list at ls Token.close_list next h = ap side_of (sym (some_is h))
 side_fresh_list at ls t next h = side_value (in_list at no_items ∷ ls) t next h ∙ ap (λ (n : ℕ). n + token_escaped t) (add-zero (levels_escaped ls))
 
 side_name : (at : ℕ) (es : RawEntries) (ls : List Level) (t : Token) (next : State) → step_name at es ls t ≡ Some next → side_of next ≡ levels_escaped ls + entries_escaped es + token_escaped t
-side_name at es ls (Token.text q) next h = ap side_of (sym (the_some h))
+side_name at es ls (Token.text q) next h = ap side_of (sym (some_is h))
 side_name at es ls t next h = absurd (none_some h)
 
 side_fresh_map : (at : ℕ) (ls : List Level) (t : Token) (next : State) → step_fresh_map at ls t ≡ Some next → side_of next ≡ levels_escaped ls + token_escaped t
-side_fresh_map at ls Token.close_map next h = ap side_of (sym (the_some h))
+side_fresh_map at ls Token.close_map next h = ap side_of (sym (some_is h))
 side_fresh_map at ls t next h = side_name at no_entries ls t next h ∙ ap (λ (n : ℕ). n + token_escaped t) (add-zero (levels_escaped ls))
 
 side_colon : (at : ℕ) (es : RawEntries) (q : Quote) (ls : List Level) (t : Token) (next : State) → step_colon at es q ls t ≡ Some next → side_of next ≡ levels_escaped ls + entries_escaped es + quote_escaped q + token_escaped t
-side_colon at es q ls Token.colon next h = omega (arith, ap side_of (the_some h))
+side_colon at es q ls Token.colon next h = omega (arith, ap side_of (some_is h))
 side_colon at es q ls t next h = absurd (none_some h)
 
 side_after : (r : Raw) (l : Level) (ls : List Level) (t : Token) (next : State) → step_after r l ls t ≡ Some next → side_of next ≡ levels_escaped (l ∷ ls) + escaped r + token_escaped t
-side_after r (in_list at rs) ls Token.close_list next h = omega (arith, ap side_of (the_some h), items_escaped-push rs r)
-side_after r (in_list at rs) ls Token.comma next h = omega (arith, ap side_of (the_some h), items_escaped-push rs r)
-side_after r (in_map at es q) ls Token.close_map next h = omega (arith, ap side_of (the_some h), entries_escaped-enter es q r)
-side_after r (in_map at es q) ls Token.comma next h = omega (arith, ap side_of (the_some h), entries_escaped-enter es q r)
+side_after r (in_list at rs) ls Token.close_list next h = omega (arith, ap side_of (some_is h), items_escaped-push rs r)
+side_after r (in_list at rs) ls Token.comma next h = omega (arith, ap side_of (some_is h), items_escaped-push rs r)
+side_after r (in_map at es q) ls Token.close_map next h = omega (arith, ap side_of (some_is h), entries_escaped-enter es q r)
+side_after r (in_map at es q) ls Token.comma next h = omega (arith, ap side_of (some_is h), entries_escaped-enter es q r)
 side_after r l ls t next h = absurd (none_some h)
 
 side_step : (s : State) (t : Token) (next : State) → step s t ≡ Some next → side_of next ≡ side_of s + token_escaped t
@@ -386,7 +372,7 @@ base_side input n (after r (l ∷ ls)) = refl
 base_side input n s = refl
 
 root_escaped : (s : State) (r : Raw) → root s ≡ Some r → side_of s ≡ escaped r
-root_escaped (after q []) r h = omega (arith, ap escaped (the_some h))
+root_escaped (after q []) r h = omega (arith, ap escaped (some_is h))
 root_escaped s r h = absurd (none_some h)
 
 pub root_side : (input : List ℕ) (s : State) (r : Raw) → root s ≡ Some r → (built input s).side_len ≡ escaped r
@@ -411,7 +397,7 @@ map_closes : (input : List ℕ) (n : ℕ) (s next : State) → step s Token.clos
 map_closes input n (fresh_map at ls) next h = refl
 map_closes input n (after r []) next h = absurd (none_some h)
 map_closes input n (after r (in_list at rs ∷ ls)) next h = absurd (none_some h)
-map_closes input n (after r (in_map at es q ∷ ls)) next h = even-flat (whole_entries es) (tree.text q.text) (whole r)
+map_closes input n (after r (in_map at es q ∷ ls)) next h = even-push (whole_entries es) (tree.text q.text) (whole r)
 map_closes input n s next h = absurd (none_some h)
 
 pub list_can_close : (input : List ℕ) (s next : State) → step s Token.close_list ≡ Some next → CanClose (built input s)
@@ -421,7 +407,7 @@ pub map_can_close : (input : List ℕ) (s next : State) → step s Token.close_m
 map_can_close input s next h = map_closes input (side_of s) s next h
 
 base_whole : (input : List ℕ) (n : ℕ) (s : State) (r : Raw) → root s ≡ Some r → (base input n s).root ≡ Some (whole r)
-base_whole input n (after q []) r h = ap (λ x. Some (whole x)) (the_some h)
+base_whole input n (after q []) r h = ap (λ x. Some (whole x)) (some_is h)
 base_whole input n s r h = absurd (none_some h)
 
 pub root_built : (input : List ℕ) (s : State) (r : Raw) → root s ≡ Some r → (built input s).root ≡ Some (whole r)
@@ -481,44 +467,44 @@ first_of depth (Token.open_map at) k = first_if (nat_lt depth 128) (TooDeep at) 
 first_of depth t k = refl
 
 faults_value : (ls : List Level) (t : Token) (next : State) (k : List WireError) → step_value ls t ≡ Some next → found_faults next k ≡ level_faults ls (token_faults (length ls) t k)
-faults_value ls (Token.null at) next k h = ap (λ s. found_faults s k) (sym (the_some h))
-faults_value ls (Token.truth at b) next k h = ap (λ s. found_faults s k) (sym (the_some h))
-faults_value ls (Token.number at x) next k h = ap (λ s. found_faults s k) (sym (the_some h))
-faults_value ls (Token.text q) next k h = ap (λ s. found_faults s k) (sym (the_some h))
-faults_value ls (Token.open_list at) next k h = ap (λ s. found_faults s k) (sym (the_some h))
-faults_value ls (Token.open_map at) next k h = ap (λ s. found_faults s k) (sym (the_some h))
+faults_value ls (Token.null at) next k h = ap (λ s. found_faults s k) (sym (some_is h))
+faults_value ls (Token.truth at b) next k h = ap (λ s. found_faults s k) (sym (some_is h))
+faults_value ls (Token.number at x) next k h = ap (λ s. found_faults s k) (sym (some_is h))
+faults_value ls (Token.text q) next k h = ap (λ s. found_faults s k) (sym (some_is h))
+faults_value ls (Token.open_list at) next k h = ap (λ s. found_faults s k) (sym (some_is h))
+faults_value ls (Token.open_map at) next k h = ap (λ s. found_faults s k) (sym (some_is h))
 faults_value ls t next k h = absurd (none_some h)
 
 faults_fresh_list : (at : ℕ) (ls : List Level) (t : Token) (next : State) (k : List WireError) → step_fresh_list at ls t ≡ Some next
     → found_faults next k ≡ level_faults ls (level_fault (length ls) at (token_faults (suc (length ls)) t k))
-faults_fresh_list at ls Token.close_list next k h = ap (λ s. found_faults s k) (sym (the_some h))
+faults_fresh_list at ls Token.close_list next k h = ap (λ s. found_faults s k) (sym (some_is h))
 faults_fresh_list at ls t next k h = faults_value (in_list at no_items ∷ ls) t next k h
 
 faults_name : (at : ℕ) (es : RawEntries) (ls : List Level) (t : Token) (next : State) (k : List WireError) → step_name at es ls t ≡ Some next
     → found_faults next k ≡ level_faults ls (level_fault (length ls) at (entries_faults (suc (length ls)) es (token_faults (suc (length ls)) t k)))
-faults_name at es ls (Token.text q) next k h = ap (λ s. found_faults s k) (sym (the_some h))
+faults_name at es ls (Token.text q) next k h = ap (λ s. found_faults s k) (sym (some_is h))
 faults_name at es ls t next k h = absurd (none_some h)
 
 faults_fresh_map : (at : ℕ) (ls : List Level) (t : Token) (next : State) (k : List WireError) → step_fresh_map at ls t ≡ Some next
     → found_faults next k ≡ level_faults ls (level_fault (length ls) at (token_faults (suc (length ls)) t k))
-faults_fresh_map at ls Token.close_map next k h = ap (λ s. found_faults s k) (sym (the_some h))
+faults_fresh_map at ls Token.close_map next k h = ap (λ s. found_faults s k) (sym (some_is h))
 faults_fresh_map at ls t next k h = faults_name at no_entries ls t next k h
 
 faults_colon : (at : ℕ) (es : RawEntries) (q : Quote) (ls : List Level) (t : Token) (next : State) (k : List WireError) → step_colon at es q ls t ≡ Some next
     → found_faults next k ≡ level_faults ls (level_fault (length ls) at (entries_faults (suc (length ls)) es (token_faults (suc (length ls)) t k)))
-faults_colon at es q ls Token.colon next k h = ap (λ s. found_faults s k) (sym (the_some h))
+faults_colon at es q ls Token.colon next k h = ap (λ s. found_faults s k) (sym (some_is h))
 faults_colon at es q ls t next k h = absurd (none_some h)
 
 faults_after : (r : Raw) (l : Level) (ls : List Level) (t : Token) (next : State) (k : List WireError) → step_after r l ls t ≡ Some next
     → found_faults next k ≡ level_faults (l ∷ ls) (faults (suc (length ls)) r (token_faults (suc (length ls)) t k))
 faults_after r (in_list at rs) ls Token.close_list next k h =
-    ap (λ s. found_faults s k) (sym (the_some h)) ∙ ap (λ x. level_faults ls (level_fault (length ls) at x)) (items_faults-push (suc (length ls)) rs r k)
+    ap (λ s. found_faults s k) (sym (some_is h)) ∙ ap (λ x. level_faults ls (level_fault (length ls) at x)) (items_faults-push (suc (length ls)) rs r k)
 faults_after r (in_list at rs) ls Token.comma next k h =
-    ap (λ s. found_faults s k) (sym (the_some h)) ∙ ap (λ x. level_faults ls (level_fault (length ls) at x)) (items_faults-push (suc (length ls)) rs r k)
+    ap (λ s. found_faults s k) (sym (some_is h)) ∙ ap (λ x. level_faults ls (level_fault (length ls) at x)) (items_faults-push (suc (length ls)) rs r k)
 faults_after r (in_map at es q) ls Token.close_map next k h =
-    ap (λ s. found_faults s k) (sym (the_some h)) ∙ ap (λ x. level_faults ls (level_fault (length ls) at x)) (entries_faults-enter (suc (length ls)) es q r k)
+    ap (λ s. found_faults s k) (sym (some_is h)) ∙ ap (λ x. level_faults ls (level_fault (length ls) at x)) (entries_faults-enter (suc (length ls)) es q r k)
 faults_after r (in_map at es q) ls Token.comma next k h =
-    ap (λ s. found_faults s k) (sym (the_some h)) ∙ ap (λ x. level_faults ls (level_fault (length ls) at x)) (entries_faults-enter (suc (length ls)) es q r k)
+    ap (λ s. found_faults s k) (sym (some_is h)) ∙ ap (λ x. level_faults ls (level_fault (length ls) at x)) (entries_faults-enter (suc (length ls)) es q r k)
 faults_after r l ls t next k h = absurd (none_some h)
 
 faults_step : (s : State) (t : Token) (next : State) (k : List WireError) → step s t ≡ Some next → found_faults next k ≡ found_faults s (token_faults (depth_of s) t k)
@@ -546,7 +532,7 @@ first_step s t next depth fault h d f = record {
 }
 
 root_faults : (s : State) (r : Raw) (k : List WireError) → root s ≡ Some r → found_faults s k ≡ faults 0 r k
-root_faults (after q []) r k h = ap (λ x. faults 0 x k) (the_some h)
+root_faults (after q []) r k h = ap (λ x. faults 0 x k) (some_is h)
 root_faults s r k h = absurd (none_some h)
 
 pub root_first : (s : State) (r : Raw) (fault : Option WireError) → root s ≡ Some r → IsFirst s fault → first (faults 0 r []) ≡ fault

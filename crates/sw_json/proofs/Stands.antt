@@ -4,6 +4,8 @@ use Rattle.std.specs.Prelude.{slice_range, Result, Ok, Err, is_some, option_map,
 use Rattle.std.specs.Option.{option_or}
 use Rattle.std.proofs.lemmas.Bool.Decides.{nat_tests}
 use Rattle.std.proofs.lemmas.List.{nil_from_length}
+use Rattle.sw_tree.specs.WireLaws.{judged_first}
+use Rattle.sw_tree.specs.Laws.Options.{some_is, map_some}
 use Rattle.sw_tree.specs.Tree.{Tree}
 use Rattle.sw_tree.specs.Builder.{Built}
 use Rattle.sw_tree.specs.Wires.{IsFound}
@@ -25,7 +27,7 @@ use Rattle.sw_json.specs.declared.place.Open.{Open}
 use Rattle.sw_json.specs.Laws.Fronts.{split}
 use Rattle.sw_json.specs.Laws.Lexemes.{taken}
 use Rattle.sw_json.specs.Laws.Completion as completion
-use Rattle.sw_json.proofs.Standing.{the_some, none_or_some, is_none, shape, shape_is, no_end, is_end, depth_of, depth_is, built, levels, input_is, root_side, no_root, list_can_close, map_can_close, root_built, built_step, faults, whole, IsFirst, first_step, root_first}
+use Rattle.sw_json.proofs.Standing.{is_none, shape, shape_is, no_end, is_end, depth_of, depth_is, built, levels, input_is, root_side, no_root, list_can_close, map_can_close, root_built, built_step, faults, whole, IsFirst, first_step, root_first}
 
 -- The state that the bytes so far lead to, of which the code keeps the place, what is open, the first fault, and as long as there is none what is built.
 -- All bytes spell what the state is completed to by what is left.
@@ -71,7 +73,7 @@ leads_none x os (Some p) h e = cc
 
 pub leads_some : (x : Option (Place × List Open)) (os : List Open) (o : Option Place) (p : Place) → Leads x os o → o ≡ Some p → x ≡ Some (p, os)
 leads_some x os None p h e = cc
-leads_some x os (Some q) p h e = h ∙ ap (λ y. Some (y, os)) (the_some e)
+leads_some x os (Some q) p h e = h ∙ ap (λ y. Some (y, os)) (some_is e)
 
 is_zero : (n : ℕ) → true ≡ eqb n 0 → n ≡ 0
 is_zero n h = grind (arith, nat_tests)
@@ -150,10 +152,6 @@ some_judged : (bytes : List ℕ) (r : Raw) → raw_of 0 bytes ≡ Some r → spe
 unfolding spelled
 some_judged bytes r h = ap judged h
 
-judged_faulty : (fs : List WireError) (t : Tree) (f : WireError) → first fs ≡ Some f → judged_by fs t ≡ Err f
-judged_faulty [] t f h = cc
-judged_faulty (g ∷ fs) t f h = ap (λ x. Err x) (the_some h)
-
 judged_good : (fs : List WireError) (t : Tree) → first fs ≡ None → judged_by fs t ≡ Ok t
 judged_good [] t h = refl
 judged_good (g ∷ fs) t h = cc
@@ -173,7 +171,7 @@ module _ (bytes : List ℕ) (place : Place) (opens : List Open) (fault : Option 
   depth_at = sym (depth_is was.state) ∙ ap (λ (x : Place × List Open). length x.1) was.shape_at
 
   stepped : (t : Token) (next : Place) (later : List Open) → place_step place opens t ≡ Some (next, later) → (n : State) × (step was.state t ≡ Some n) × (shape n ≡ (next, later))
-  stepped t next later e = none_or_some shape (step was.state t) (next, later) (shape_is was.state t ∙ same_step t ∙ e)
+  stepped t next later e = map_some shape (step was.state t) (next, later) (shape_is was.state t ∙ same_step t ∙ e)
 
   -- the bytes up to the token
   before : List ℕ
@@ -234,7 +232,7 @@ module _ (bytes : List ℕ) (place : Place) (opens : List Open) (fault : Option 
   pub faulty : (f : WireError) → skip rest ≡ [] → place_end place opens ≡ true → fault ≡ Some f → spelled bytes ≡ Err f
   faulty f h e z =
       let n = finished h e in
-      some_judged bytes n.0 n.1 ∙ judged_faulty (faults 0 n.0 []) (whole n.0) f (root_first was.state n.0 fault n.2 was.leads ∙ z)
+      some_judged bytes n.0 n.1 ∙ judged_first (faults 0 n.0 []) (whole n.0) f (root_first was.state n.0 fault n.2 was.leads ∙ z)
 
   pub good : skip rest ≡ [] → place_end place opens ≡ true → fault ≡ None → (t : Tree) × (spelled bytes ≡ Ok t) × (b.root ≡ Some t) × HasEscaped bytes b.side_len
   good h e z =

@@ -1,16 +1,14 @@
 -- What a function answers that appends a text to bytes.
-use Rattle.std.specs.Prelude.{◌≡◌, ℕ, List, [], ◌++◌, Option, Some, None, option_map, Result, Ok, Err, codes}
+use Rattle.std.specs.Prelude.{ℕ, List, [], ◌++◌, Option, Some, None, option_map, Result, codes}
+use Rattle.sw_tree.specs.Answered.{AnsweredOption, print_cause}
 use Rattle.sw_tree.specs.Tree.{Tree, trees, entries}
 use Rattle.sw_tree.specs.Image.{trees_image, entries_image}
 use Rattle.sw_tree.specs.declared.fail.PrintError.{PrintError}
-use Rattle.sw_tree.specs.declared.fail.PrintError.TheVariants.{Key, Memory}
 use Rattle.sw_json.specs.Text.{json_text, key_text, more_items, more_entries}
 
 -- the text appended exactly where there is one, Key exactly where there is none, or want of memory
 abbrev pub IsPushed : Result (Unit {0}) PrintError → List ℕ → List ℕ → Option (List ℕ) → Type 0
-IsPushed (Ok _) before after r = option_map (λ s. before ++ s) r ≡ Some after
-IsPushed (Err Key) before after r = r ≡ None
-IsPushed (Err Memory) before after r = Unit {0}
+IsPushed result before after r = AnsweredOption (λ _. after) print_cause result (option_map (λ s. before ++ s) r)
 
 -- one text and then another, where there are both
 abbrev pub joined : Option (List ℕ) → Option (List ℕ) → Option (List ℕ)

@@ -5,6 +5,7 @@ use Rattle.std.specs.declared.alloc.AllocError.{AllocError}
 use Rattle.std.specs.declared.alloc.Global.{Global}
 use Rattle.std.proofs.lemmas.List.{map-append, length-map, take_more}
 use Rattle.std.proofs.lemmas.Grind.{flat_map-append}
+use Rattle.sw_tree.specs.Laws.Each.{each_end}
 use Rattle.sw_tree.specs.Meaning.{Meaning}
 use Rattle.sw_tree.specs.Mode.{plain}
 use Rattle.sw_tree.specs.Nodes.{kinds, IsNoteIn, IsNoteIn-below}
@@ -45,10 +46,6 @@ pub each_at : {A : Type 0} (P : A → Type 0) (xs : List A) (i : ℕ) (d : A) �
 each_at P [] i d h e = absurd (omega (arith, h))
 each_at P (x ∷ xs) zero d h e = e.0
 each_at P (x ∷ xs) (suc i) d h e = each_at P xs i d (omega (arith, h)) e.1
-
-each_more : {A : Type 0} (P : A → Type 0) (xs : List A) (x : A) → Each P xs → P x → Each P (xs ++ x ∷ [])
-each_more P [] x e p = (p, tt)
-each_more P (y ∷ ys) x e p = (e.0, each_more P ys x e.1 p)
 
 -- the root of the tree that the bytes spell
 abbrev pub root : Tree → Seen
@@ -119,7 +116,7 @@ told_more IsPath front log i d old new h told gains =
       entries = es ++ x ∷ [];
       are = record {
         refusals = map-append (λ (e : Entry). e.refusal) es (x ∷ []) ∙ ap (λ rs. rs ++ get_or log i d ∷ []) told.are.refusals ∙ sym (take_more log i d h);
-        paths = each_more (λ (e : Entry). IsPath e.refusal.place e.path) es x told.are.paths gains.leads;
+        paths = each_end (λ (e : Entry). IsPath e.refusal.place e.path) es x told.are.paths gains.leads;
       };
       printed = gains.gained ∙ ap (λ b. b ++ entry_text x) told.printed ∙ joined_more front es x;
     }

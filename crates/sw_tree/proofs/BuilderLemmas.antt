@@ -86,7 +86,8 @@ grown s (o ∷ outer) cells seg kids t h none g one low =
       means = rw (d, k, forest-append s (drop (o.at + 1) cells) seg h.2.formed, one) refl;
     }
 
-forest_le : (s : Store) (cells : List Cell) → length (forest s cells) ≤ length cells
+-- cells mean as many trees at most
+pub forest_le : (s : Store) (cells : List Cell) → length (forest s cells) ≤ length cells
 unfolding forest
 forest_le s [] = omega arith
 forest_le s (c ∷ cs) = omega (arith, forest_le s cs, length-drop (arity c) (forest s cs))

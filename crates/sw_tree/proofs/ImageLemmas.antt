@@ -1,6 +1,7 @@
 -- Images, and their levels.
 use Rattle.std.proofs.Common.{◌≡◌, ℕ, ◌≤◌, pos, List, [], ◌∷◌, ◌++◌, Option, Some, None, refl, ap, sym, subst, ◌∙◌, arith, Result, Ok, Err}
-use Rattle.std.specs.Prelude.{option_map, IsErrAnd, IfOk, map as list_map}
+use Rattle.std.specs.Prelude.{IsErrAnd, IfOk, map as list_map}
+use Rattle.sw_tree.specs.Laws.Options.{map_some}
 use Rattle.sw_tree.specs.Imaged.{MeansImage, IsImaged}
 use Rattle.sw_tree.specs.declared.fail.PrintError.{PrintError}
 use Rattle.sw_tree.specs.declared.fail.PrintError.TheVariants as print
@@ -55,10 +56,6 @@ entries_made (Some k) (Some v) None us h = absurd (cc)
 entries_made (Some k) None g us h = absurd (cc)
 entries_made None f g us h = absurd (cc)
 
-mapped : {A B : Type 0} (f : A → B) (o : Option A) (y : B) → option_map f o ≡ Some y → (x : A) × (o ≡ Some x) × (f x ≡ y)
-mapped f (Some x) y h = (x, refl, cc)
-mapped f None y h = absurd (cc)
-
 same_depth : (t u : Tree) → Some t ≡ Some u → depth u ≡ depth t
 same_depth t u h = let e : u ≡ t = cc in ap depth e
 
@@ -78,8 +75,8 @@ mutual
   value_image-depth (int n) u h = omega (arith, same_depth _ u h)
   value_image-depth (text s) u h = omega (arith, same_depth _ u h)
   value_image-depth (bytes s) u h = omega (arith, same_depth _ u h, numbers-depth s)
-  value_image-depth (list ts) u h = let m = mapped list (trees_image ts) u h in omega (arith, ap depth m.2, trees_image-depth ts m.0 m.1)
-  value_image-depth (map es) u h = let m = mapped map (entries_image es) u h in omega (arith, ap depth m.2, entries_image-depth es m.0 m.1)
+  value_image-depth (list ts) u h = let m = map_some list (trees_image ts) u h in omega (arith, ap depth m.2, trees_image-depth ts m.0 m.1)
+  value_image-depth (map es) u h = let m = map_some map (entries_image es) u h in omega (arith, ap depth m.2, entries_image-depth es m.0 m.1)
 
   trees_image-depth : (ts us : Trees) → trees_image ts ≡ Some us → trees_depth us ≤ trees_depth ts
   trees_image-depth no_trees us h = let e : no_trees ≡ us = cc in omega (arith, ap trees_depth e)

@@ -1,6 +1,7 @@
 -- What it says of two sets of kinds that one is within the other.
 use Rattle.std.proofs.Common.{◌≡◌, Bool, true, false, refl}
 use Rattle.std.specs.Prelude.{◌&&◌}
+use Rattle.std.proofs.lemmas.Bool.{and_parts}
 use Rattle.sw_tree.specs.Kinds.{has}
 use Rattle.sw_tree.specs.KindsWithin.{implied, within}
 use Rattle.sw_tree.specs.declared.mode.Kind.{Kind}
@@ -13,10 +14,6 @@ Follows x y = x ≡ true → y ≡ true
 follows : (x y : Bool) → implied x y ≡ true → Follows x y
 follows true y e f = e
 follows false y e f = absurd (cc)
-
-both : (p q : Bool) → p && q ≡ true → (p ≡ true) × (q ≡ true)
-both true q h = (refl, h)
-both false q h = absurd (cc)
 
 -- one of two tests failed
 data Fails (p q : Bool) : Type 0 where
@@ -34,12 +31,12 @@ lacks false y e = absurd (cc)
 module _ (a b : Kinds) where
   pub within-has : within a b ≡ true → (k : Kind) → has a k ≡ true → has b k ≡ true
   within-has h k =
-      let m = both _ _ h in
-      let l = both _ _ m.0 in
-      let y = both _ _ l.0 in
-      let s = both _ _ y.0 in
-      let i = both _ _ s.0 in
-      let t = both _ _ i.0 in
+      let m = and_parts _ _ h in
+      let l = and_parts _ _ m.0 in
+      let y = and_parts _ _ l.0 in
+      let s = and_parts _ _ y.0 in
+      let i = and_parts _ _ s.0 in
+      let t = and_parts _ _ i.0 in
       by k (follows _ _ t.0) (follows _ _ t.1) (follows _ _ i.1) (follows _ _ s.1) (follows _ _ y.1) (follows _ _ l.1) (follows _ _ m.1)
     where
       by : (k : Kind) → Follows a.null b.null → Follows a.truth b.truth → Follows a.int b.int → Follows a.text b.text → Follows a.bytes b.bytes → Follows a.list b.list → Follows a.map b.map →

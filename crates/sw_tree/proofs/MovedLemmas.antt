@@ -1,8 +1,6 @@
 -- Cells that are moved to where their ranges begin mean what they meant.
-use Rattle.std.proofs.Common.{ℕ, pos, zero, suc, ◌+◌, ◌-◌, ◌≤◌, ◌<◌, ◌≡◌, List, [], ◌∷◌, length, drop, get_or, map, refl, sym, ap, subst, arith, add-one, length-drop}
+use Rattle.std.proofs.Common.{ℕ, pos, zero, suc, ◌+◌, ◌-◌, ◌≤◌, ◌<◌, ◌≡◌, List, [], ◌∷◌, length, drop, get_or, map, refl, sym, ap, subst, arith, length-drop}
 use Rattle.std.proofs.lemmas.List.{length-map, take-take, length-take-le, drop-take, drop-drop, drop-map, get_or-take, get_or-drop}
-use Rattle.std.proofs.Math.ListN.{drop_of_length-le}
-use Rattle.std.proofs.Math.Seq.{drop-cons}
 use Rattle.std.specs.Prelude.{slice_range}
 use Rattle.std.specs.Str.{IsUtf8}
 use Rattle.sw_tree.specs.declared.cell.Cell.{Cell}
@@ -269,10 +267,3 @@ moved_part_of s cs h =
       formed = formed_moved s (reach_of cs) cs inside h w;
       means = forest_moved s (reach_of cs) cs h w;
     }
-
--- a step of a loop over cells
-pub reach_step : (g : Reach) (cs : List Cell) (i : ℕ) (d : Cell) → i < length cs → reach_from g (drop i cs) ≡ reach_from (widened g (get_or cs i d)) (drop (i + 1) cs)
-reach_step g cs i d lt = rw (add-one, drop-cons cs i d lt) refl
-
-pub reach_end : (g : Reach) (cs : List Cell) (i : ℕ) → length cs ≤ i → reach_from g (drop i cs) ≡ g
-reach_end g cs i h = rw (drop_of_length-le cs h) refl

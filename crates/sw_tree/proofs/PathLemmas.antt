@@ -1,16 +1,11 @@
 -- Steps to children.
-use Rattle.std.proofs.Common.{ℕ, zero, suc, ◌+◌, ◌≤◌, ◌<◌, ◌≡◌, Bool, true, false, List, [], ◌∷◌, ◌++◌, length, drop, get_or, Option, Some, None, refl, ap, sym, ◌∙◌, arith, add-one}
+use Rattle.std.proofs.Common.{ℕ, zero, suc, ◌+◌, ◌≤◌, ◌<◌, ◌≡◌, Bool, true, false, List, [], ◌∷◌, ◌++◌, length, drop, Option, Some, None, refl, ap, sym, ◌∙◌, arith, add-one}
 use Rattle.std.specs.Prelude.{slice_get}
 use Rattle.std.specs.Option.{option_and_then}
-use Rattle.std.proofs.Math.Seq.{drop-cons}
 use Rattle.sw_tree.specs.Tree.{Tree, Trees, Entries, null, truth, int, text, bytes, list, map, no_trees, tree, no_entries, entry, items, pairs, size, trees_size, entries_size, len_of}
 use Rattle.sw_tree.specs.Seen.{Seen, row, entry_row, behind, place_at, items_seen, entries_seen}
-use Rattle.sw_tree.specs.Path.{child, node_seen, HasPlace, Holds, HoldsPair, Nearer}
+use Rattle.sw_tree.specs.Path.{child, node_seen, HasPlace, Holds, HoldsPair}
 use Rattle.sw_tree.specs.declared.path.Step.{Step}
-use Rattle.sw_tree.specs.declared.path.Step.TheVariants.{Item, Key, Value}
-
-pub step_to : (ps : List Step) (i : ℕ) (d : Step) (s : Seen) (o : Option Seen) → i < length ps → o ≡ child (get_or ps i d) s → node_seen (drop i ps) s ≡ option_and_then (node_seen (drop (i + 1) ps)) o
-step_to ps i d s o lt e = rw (drop-cons ps i d lt, add-one, e) refl
 
 -- the items of a tree, from that place on
 pub row_holds : (low p place : ℕ) (ts : Trees) → low < p → p ≤ place → place < p + trees_size ts → Holds low place (row true p (items ts))
@@ -90,18 +85,6 @@ entries_at_place (list ts) p place c xs count from before e = absurd (cc)
 pub of_entries : (s : Seen) (place : ℕ) (xs : List (Seen × Seen)) → HasPlace s place → s.place < place → Some xs ≡ entries_seen s → OfEntries s place xs
 of_entries s place xs has from e = entries_at_place s.tree s.place place s.counts xs has.counts from has.before e
 
--- a node without children has its own place alone
-pub no_child : (s : Seen) (place : ℕ) → HasPlace s place → s.place < place → None ≡ items_seen s → None ≡ entries_seen s → ⊥
-no_child s place has from a b = none s.tree s.place s.counts has.before from a b where
-  none : (t : Tree) (p : ℕ) (c : Bool) → place < p + size t → p < place → None ≡ items_seen (record { tree = t; place = p; counts = c }) → None ≡ entries_seen (record { tree = t; place = p; counts = c }) → ⊥
-  none (list ts) p c before from a b = cc
-  none (map es) p c before from a b = cc
-  none null p c before from a b = omega (arith, before, from)
-  none (truth x) p c before from a b = omega (arith, before, from)
-  none (int x) p c before from a b = omega (arith, before, from)
-  none (text x) p c before from a b = omega (arith, before, from)
-  none (bytes x) p c before from a b = omega (arith, before, from)
-
 pub get_behind : {A : Type 0} (ws : List A) (i : ℕ) (x : A) (xs : List A) → drop i ws ≡ x ∷ xs → slice_get ws i ≡ Some x
 get_behind ws zero x xs e = rw e refl
 get_behind [] (suc i) x xs e = absurd (cc)
@@ -126,12 +109,3 @@ onward f g t u None h e = absurd (cc)
 pub step_on : (xs : List Step) (x : Step) (s t u : Seen) → node_seen xs s ≡ Some t → child x t ≡ Some u → node_seen (xs ++ x ∷ []) s ≡ Some u
 step_on [] x s t u e f = rw (some_inj s t e, f) refl
 step_on (y ∷ xs) x s t u e f = onward (node_seen xs) (node_seen (xs ++ x ∷ [])) t u (child y s) (λ v h. step_on xs x v t u h f) e
-
-pub item_step : (s t : Seen) (place k : ℕ) (xs : List Seen) → Some xs ≡ items_seen s → slice_get xs k ≡ Some t → HasPlace t place → s.place < t.place → Nearer s t (Item k) place
-item_step s t place k xs e g has on = record { leads = rw (← e) g; inside = has; on = on }
-
-pub key_step : (s : Seen) (t : Seen × Seen) (place k : ℕ) (xs : List (Seen × Seen)) → Some xs ≡ entries_seen s → slice_get xs k ≡ Some t → HasPlace t.0 place → s.place < t.0.place → Nearer s t.0 (Key k) place
-key_step s t place k xs e g has on = record { leads = rw (← e, g) refl; inside = has; on = on }
-
-pub value_step : (s : Seen) (t : Seen × Seen) (place k : ℕ) (xs : List (Seen × Seen)) → Some xs ≡ entries_seen s → slice_get xs k ≡ Some t → HasPlace t.1 place → s.place < t.1.place → Nearer s t.1 (Value k) place
-value_step s t place k xs e g has on = record { leads = rw (← e, g) refl; inside = has; on = on }

@@ -1,5 +1,6 @@
 -- The trees that cells mean are short, where their input, the text beside it and the cells are.
 use Rattle.std.proofs.Common.{ℕ, zero, suc, ◌+◌, ◌-◌, ◌≤◌, List, [], ◌∷◌, ◌++◌, length, take, drop, arith, length-drop}
+use Rattle.sw_tree.proofs.BuilderLemmas.{forest_le}
 use Rattle.sw_tree.specs.declared.cell.Cell.{Cell}
 use Rattle.sw_tree.specs.declared.cell.Span.{Span}
 use Rattle.sw_tree.specs.declared.cell.Cell.TheVariants.{Null, Bool, Natural, Negative, Wide, Text, Copied, Bytes, CopiedBytes, List as Items, Map}
@@ -43,12 +44,6 @@ turns_most (k ∷ v ∷ ts) = omega (arith, turns_most ts)
 part_length : (s : List ℕ) (p : Span) → IsLength (length s) → IsLength (length (part s p))
 part_length s p h = omega (arith, take_length (p.end - p.start) (drop p.start s), length-drop p.start s)
 
--- cells mean as many trees at most
-forest_length : (s : Store) (cs : List Cell) → length (forest s cs) ≤ length cs
-unfolding forest
-forest_length s [] = omega arith
-forest_length s (c ∷ cs) = omega (arith, length-drop (arity c) (forest s cs), forest_length s cs)
-
 module _ (s : Store) (input : IsLength (length s.input)) (side : IsLength (length s.side)) where
   cell_short : (c : Cell) (ts : List Tree) → IsLength (length ts) → AreShort (trees ts) → IsShort (tree_at s c ts)
   cell_short Null ts n h = tt
@@ -71,7 +66,7 @@ module _ (s : Store) (input : IsLength (length s.input)) (side : IsLength (lengt
   forest_short [] n = tt
   forest_short (c ∷ cs) n =
       let h = forest_short cs (omega arith) in
-      let l : IsLength (length (forest s cs)) = omega (arith, forest_length s cs) in
+      let l : IsLength (length (forest s cs)) = omega (arith, forest_le s cs) in
       (cell_short c (forest s cs) l h, short-drop (arity c) (forest s cs) h)
 
 first_short : (ts : List Tree) → AreShort (trees ts) → IsShort (first ts)

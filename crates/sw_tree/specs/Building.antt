@@ -1,5 +1,6 @@
 -- What is built node by node, and what the calls that build answer.
 use Rattle.std.specs.Prelude.{◌≡◌, List, [], ◌∷◌, cond, nat_le, Bool, true, false, Result, Ok, Err}
+use Rattle.sw_tree.specs.Answered.{Answered, write_cause}
 use Rattle.sw_tree.specs.Tree.{Tree, list, map, trees, entries, by_turns, depth}
 use Rattle.sw_tree.specs.Steps.{bind}
 use Rattle.sw_tree.specs.declared.fail.SerError.{SerError}
@@ -13,15 +14,11 @@ within t = cond (nat_le (depth t) 128) (Ok t) (Err reason.TooDeep)
 
 -- the tree exactly where there is one, the refusal exactly where it is that one, or want of memory
 abbrev pub IsMade : Result Tree SerFail → Result Tree SerError → Type 0
-IsMade (Ok t) r = r ≡ Ok t
-IsMade (Err (ser.Unwritable e)) r = r ≡ Err e
-IsMade (Err ser.Memory) r = Unit {0}
+IsMade = Answered (λ t. t) write_cause
 
 -- what is built becomes that, or the refusal is that one, or want of memory; after a refusal or want of memory nothing is said of it
 abbrev pub IsBuilt : {S : Type 0} → Result (Unit {0}) SerFail → Result S SerError → S → Type 0
-IsBuilt (Ok _) r new = r ≡ Ok new
-IsBuilt (Err (ser.Unwritable e)) r new = r ≡ Err e
-IsBuilt (Err ser.Memory) r new = Unit {0}
+IsBuilt result r new = Answered (λ _. new) write_cause result r
 
 -- where it is taken that is what is built, and otherwise all is as it was; or want of memory
 abbrev pub IsTaken : {S : Type 0} → Result Bool SerFail → S → S → S → Type 0

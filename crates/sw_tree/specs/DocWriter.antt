@@ -212,9 +212,3 @@ maps d es =
       long = by_turns_len es;
     } in
     law d true (by_turns es) (map (entries es)) p
-
--- the tree that was put into a fresh writer is the document's, with copies of all its texts and byte strings
-pub document_put : (t : Tree) → depth t ≤ 128 → document (put_doc t fresh.doc) ≡ Some (record { tree = t; side_len = content_len t })
-document_put t h =
-    let a : nat_le (0 + depth t) 128 ≡ true = le-leb (0 + depth t) 128 (omega arith) in
-    ap (λ r. document (doc_if r (record { input = []; side_len = 0 + content_len t; frames = []; root = Some t }))) a ∙ ap (λ n. document_at (Some t) n) (omega arith)

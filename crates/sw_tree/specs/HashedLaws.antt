@@ -239,7 +239,7 @@ module _ {A : Type 0} (R : A → A → Ordering) (o : IsTotalOrder R) where
           ∙ sym (put-twice (sorted R join (before ++ after)) x y q)
           ∙ ap (λ l. put R join l y) (sym (put-fresh x (before ++ after) (before ++ x ∷ after) (one x) h))
 
-equal_from_level : (r : Ordering) → is_eq r ≡ true → r ≡ Equal
+pub equal_from_level : (r : Ordering) → is_eq r ≡ true → r ≡ Equal
 equal_from_level Less e = absurd (cc)
 equal_from_level Equal e = refl
 equal_from_level Greater e = absurd (cc)

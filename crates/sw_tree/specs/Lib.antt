@@ -20,6 +20,8 @@ pub mod Kinds
 pub mod KindsCode
 pub mod KindsWithin
 pub mod Fail
+pub mod Answered
+pub mod Logged
 pub mod Cells
 pub mod Formed
 pub mod Builder
@@ -58,3 +60,4 @@ pub mod LeafSame
 pub mod OptionSame
 pub mod PairSame
 pub mod ListSame
+pub mod Laws

@@ -1,7 +1,6 @@
 -- The kinds of a tree's nodes by number: from 0 in preorder, a key before its value.
 use Rattle.std.specs.Prelude.{◌≡◌, ◌<◌, ℕ, suc, List, [], ◌∷◌, ◌++◌, length, false, Some, slice_get}
 use Rattle.std.proofs.Common.{refl, ap, arith, length-append}
-use Rattle.std.proofs.lemmas.Option.{slice_get_within}
 use Rattle.sw_tree.specs.Placed.{Note}
 use Rattle.sw_tree.specs.Tree.{Tree, Trees, Entries, null, truth, int, text, bytes, list, map, no_trees, tree, no_entries, entry, size, trees_size, entries_size}
 use Rattle.sw_tree.specs.declared.mode.Kind.{Kind}
@@ -54,10 +53,6 @@ mutual
   entries_kinds-size no_entries = refl
   entries_kinds-size (entry k v es) =
       omega (arith, length-append (kinds k) (kinds v ++ entries_kinds es), length-append (kinds v) (entries_kinds es), kinds-size k, kinds-size v, entries_kinds-size es)
-
--- so a node of that kind is one of the tree's, and so is a note's node
-pub HasKind-below : (t : Tree) (n : ℕ) (k : Kind) → HasKind (kinds t) n k → n < size t
-HasKind-below t n k h = omega (arith, slice_get_within (kinds t) n k h, kinds-size t)
 
 pub IsNoteIn-below : (t : Tree) (n : Note) → IsNoteIn (kinds t) n → n.number < size t
 IsNoteIn-below t n h = omega (arith, h.below, kinds-size t)

@@ -6,6 +6,7 @@ use Rattle.std.specs.Fmt.{decimal, signed_decimal}
 use Rattle.std.proofs.lemmas.Bool.Decides.{leb_tells, eqb_tells, Decides-ltb}
 use Rattle.std.proofs.lemmas.List.Folds.{list_all-append}
 use Rattle.std.proofs.lemmas.Fmt.{decimal_digit, decimal_by_steps_wide}
+use Rattle.std.proofs.lemmas.Bool.{and_parts}
 use Rattle.sw_tree.specs.Number.{is_digit, is_leading, is_int, is_number, is_whole, int_of, value_from, value_of, key_number}
 
 -- from -2^127 to 2^128 - 1
@@ -68,13 +69,9 @@ one_more n ds h s =
 decimal_spells : (n : ℕ) → n < 10 ^ 64 → Spells n (decimal n)
 decimal_spells = decimal_by_steps_wide Spells one_digit one_more
 
-true_both : (a b : Bool) → (a && b) ≡ true → b ≡ true
-true_both true b h = h
-true_both false b h = absurd (cc)
-
 int_from_leading : (ds : List ℕ) → leads ds ≡ true → list_all is_digit ds ≡ true → is_int ds ≡ true
 int_from_leading [] h k = absurd (cc)
-int_from_leading (d ∷ ds) h k = rw (eqb_no d 48 (λ e. omega (arith, e, above_zero d h)), h, true_both (is_digit d) (list_all is_digit ds) k) refl
+int_from_leading (d ∷ ds) h k = rw (eqb_no d 48 (λ e. omega (arith, e, above_zero d h)), h, (and_parts (is_digit d) (list_all is_digit ds) k).1) refl
 
 -- digits before which no minus stands
 unsigned : (ds : List ℕ) (n : ℕ) → leads ds ≡ true → is_int ds ≡ true → value_of ds ≡ n → n < 2 ^ 128 → key_number ds ≡ Some (pos n)

@@ -40,7 +40,7 @@ ranks_from_total P R o = record {
 }
 
 module _ (P : Meaning → Type 0) (R : Order) (o : Ranks P R) where
-  turned_as : (x y : Meaning) → P x → P y → (r : Ordering) → R x y ≡ r → R y x ≡ ordering_reverse r
+  pub turned_as : (x y : Meaning) → P x → P y → (r : Ordering) → R x y ≡ r → R y x ≡ ordering_reverse r
   turned_as x y h k r e = o.turned y x k h ∙ ap ordering_reverse e
 
   below : (x z : Meaning) → P x → P z → (r : Ordering) → R x z ≡ r → is_gt r ≡ false → (R z x ≡ Equal → ⊥) → r ≡ Less
@@ -48,7 +48,7 @@ module _ (P : Meaning → Type 0) (R : Order) (o : Ranks P R) where
   below x z h k Equal e g n = absurd (n (turned_as x z h k Equal e))
   below x z h k Greater e g n = absurd (cc)
 
-  less_chain : (x y z : Meaning) → P x → P y → P z → R x y ≡ Less → R y z ≡ Less → R x z ≡ Less
+  pub less_chain : (x y z : Meaning) → P x → P y → P z → R x y ≡ Less → R y z ≡ Less → R x z ≡ Less
   less_chain x y z h k l p q =
       let g : is_gt (R x z) ≡ false = o.chains x y z h k l (ap is_gt p) (ap is_gt q) in
       let n : R z x ≡ Equal → ⊥ = λ e. clash (R z y) (turned_as y z k l Less q) (o.chains z x y l h k (ap is_gt e) (ap is_gt p)) in

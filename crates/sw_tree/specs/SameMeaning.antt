@@ -1,9 +1,9 @@
 -- That `==` and hashing agree with meanings, from std's own laws.
 use Rattle.std.specs.Prelude.{◌≡◌, ◌↔◌, ℕ, List, Bool, true, IsTrue}
-use Rattle.std.proofs.Common.{refl, ap, sym, subst, ◌∙◌}
+use Rattle.std.proofs.Common.{ap, sym, subst, ◌∙◌}
 use Rattle.std.specs.Ordering.{is_eq}
 use Rattle.std.specs.declared.cmp.Ordering.{Ordering}
-use Rattle.std.specs.declared.cmp.Ordering.TheVariants.{Less, Equal, Greater}
+use Rattle.sw_tree.specs.HashedLaws.{equal_from_level}
 use Rattle.sw_tree.specs.Meaning.{Meaning}
 use Rattle.sw_tree.specs.Ranks.{Order, Ranks, TellsApart, IsOrderOf}
 
@@ -15,15 +15,10 @@ TellsSame {T} P f eq = (x y : T) → P (f x) → P (f y) → IsTrue (eq x y) ↔
 abbrev pub HashesAlike : {T : Type 0} → (Meaning → Type 0) → (T → Meaning) → (T → List (List ℕ)) → Type 0
 HashesAlike {T} P f input = (x y : T) → P (f x) → f x ≡ f y → input x ≡ input y
 
-level : (r : Ordering) → is_eq r ≡ true → r ≡ Equal
-level Less e = absurd (cc)
-level Equal e = refl
-level Greater e = absurd (cc)
-
 module _ {T : Type 0} (eq : T → T → Bool) (cmp : T → T → Ordering) (f : T → Meaning) (P : Meaning → Type 0) (R : Order)
     (ties : (x y : T) → eq x y ≡ is_eq (cmp x y)) (o : IsOrderOf cmp f R) (ranks : Ranks P R) (apart : TellsApart P R) where
   same_from_eq : (x y : T) → P (f x) → P (f y) → eq x y ≡ true → f x ≡ f y
-  same_from_eq x y h k e = apart (f x) (f y) h k (level (R (f x) (f y)) (ap is_eq (sym (o x y)) ∙ sym (ties x y) ∙ e))
+  same_from_eq x y h k e = apart (f x) (f y) h k (equal_from_level (R (f x) (f y)) (ap is_eq (sym (o x y)) ∙ sym (ties x y) ∙ e))
 
   eq_from_same : (x y : T) → P (f x) → f x ≡ f y → eq x y ≡ true
   eq_from_same x y h e = ties x y ∙ ap is_eq (o x y ∙ ap (R (f x)) (sym e) ∙ ranks.itself (f x) h)

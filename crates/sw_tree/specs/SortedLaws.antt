@@ -3,16 +3,17 @@ use Rattle.std.specs.Prelude.{◌≡◌, List, [], ◌∷◌, ◌++◌, map}
 use Rattle.std.proofs.Common.{refl, ap, sym, subst, ◌∙◌}
 use Rattle.std.specs.List.{AllByRecursion}
 use Rattle.std.specs.List.Sorted.{IsStrictlySortedBy}
-use Rattle.std.specs.Ordering.{match_ordering, ordering_reverse}
+use Rattle.std.specs.Ordering.{match_ordering}
 use Rattle.std.specs.BTreeMap.{insert_entry}
 use Rattle.std.specs.BTreeSet.{insert_key}
 use Rattle.std.specs.Map.{keys_of}
 use Rattle.std.specs.declared.cmp.Ordering.{Ordering}
 use Rattle.std.specs.declared.cmp.Ordering.TheVariants.{Less, Equal, Greater}
+use Rattle.sw_tree.specs.Laws.Each.{each_end}
 use Rattle.sw_tree.specs.Meaning.{Meaning, parts-meanings}
 use Rattle.sw_tree.specs.Steps.{Each}
 use Rattle.sw_tree.specs.Meant.{IsPairOf, pair, pair_meaning, list_meaning}
-use Rattle.sw_tree.specs.Ranks.{Order, Ranks, IsOrderOf, total_from_ranks}
+use Rattle.sw_tree.specs.Ranks.{Order, Ranks, IsOrderOf, turned_as, less_chain}
 use Rattle.sw_tree.specs.PairRanks.{first, first_is, second_is}
 use Rattle.sw_tree.specs.Sorted.{Ascends, IsSetOf, by_first, IsMapOf, Join, old_stays, value_replaced, put, put_all, sorted, sort_onto, sort_keys_onto}
 
@@ -41,10 +42,6 @@ each_more : {A : Type 0} (S T U : A → Type 0) → ((x : A) → S x → T x →
 each_more S T U f [] h k = tt
 each_more S T U f (x ∷ xs) h k = (f x h.0 k.0, each_more S T U f xs h.1 k.1)
 
-each_end : {A : Type 0} (S : A → Type 0) (xs : List A) (y : A) → Each S xs → S y → Each S (xs ++ y ∷ [])
-each_end S [] y h k = (k, tt)
-each_end S (x ∷ xs) y h k = (h.0, each_end S xs y h.1 k)
-
 module _ (R : Order) (join : Join) (S : Meaning → Type 0) (joins : (e v : Meaning) → S e → S v → S (join e v)) where
   put_case : (e : Meaning) (es : List Meaning) (v : Meaning) (o : Ordering) → S e → Each S es → S v → Each S (put R join es v)
       → Each S (match_ordering o (v ∷ e ∷ es) (join e v ∷ es) (e ∷ put R join es v))
@@ -62,18 +59,12 @@ module _ (R : Order) (join : Join) (S : Meaning → Type 0) (joins : (e v : Mean
   put_all-each es (v ∷ vs) h k = put_all-each (put R join es v) vs (put-each es v h k.0) k.1
 
 module _ (P : Meaning → Type 0) (R : Order) (join : Join) (o : Ranks P R) (j : Joins P R join) where
-  chain : (x y z : Meaning) → P x → P y → P z → R x y ≡ Less → R y z ≡ Less → R x z ≡ Less
-  chain x y z h k l p q = (total_from_ranks P R o).trans (x, h) (y, k) (z, l) p q
-
-  turned_as : (x y : Meaning) → P x → P y → (r : Ordering) → R x y ≡ r → R y x ≡ ordering_reverse r
-  turned_as x y h k r e = o.turned y x k h ∙ ap ordering_reverse e
-
   ascends_case : (e : Meaning) (es : List Meaning) (v : Meaning) (r : Ordering) → R v e ≡ r → P e → Each P es → P v
       → Each (λ y. R e y ≡ Less) es → Ascends R es → Ascends R (put R join es v)
       → Ascends R (match_ordering r (v ∷ e ∷ es) (join e v ∷ es) (e ∷ put R join es v))
-  ascends_case e es v Less q h k l a b c = ((q, each_more P (λ y. R e y ≡ Less) (λ y. R v y ≡ Less) (λ y s t. chain v e y l h s q t) es k a), (a, b))
+  ascends_case e es v Less q h k l a b c = ((q, each_more P (λ y. R e y ≡ Less) (λ y. R v y ≡ Less) (λ y s t. less_chain P R o v e y l h s q t) es k a), (a, b))
   ascends_case e es v Equal q h k l a b c = (each_more P (λ y. R e y ≡ Less) (λ y. R (join e v) y ≡ Less) (λ y s t. j.left e v y ∙ t) es k a, b)
-  ascends_case e es v Greater q h k l a b c = (put-each R join (λ y. R e y ≡ Less) (λ d w s t. j.right d w e ∙ s) es v a (turned_as v e l h Greater q), c)
+  ascends_case e es v Greater q h k l a b c = (put-each R join (λ y. R e y ≡ Less) (λ d w s t. j.right d w e ∙ s) es v a (turned_as P R o v e l h Greater q), c)
 
   pub put-ascends : (es : List Meaning) (v : Meaning) → Each P es → Ascends R es → P v → Ascends R (put R join es v)
   put-ascends [] v h a k = (tt, tt)
@@ -99,7 +90,7 @@ module _ (P : Meaning → Type 0) (R : Order) (join : Join) (o : Ranks P R) (j :
   all_above : (es : List Meaning) (v : Meaning) (ws : List Meaning) → P v → Each P ws → Each (λ y. R v y ≡ Less) ws → Each (λ w. Each (λ e. R w e ≡ Greater) es) ws
       → Each (λ w. Each (λ e. R w e ≡ Greater) (es ++ v ∷ [])) ws
   all_above es v [] h k a b = tt
-  all_above es v (w ∷ ws) h k a b = (each_end (λ e. R w e ≡ Greater) es v b.0 (turned_as v w h k.0 Less a.0), all_above es v ws h k.1 a.1 b.1)
+  all_above es v (w ∷ ws) h k a b = (each_end (λ e. R w e ≡ Greater) es v b.0 (turned_as P R o v w h k.0 Less a.0), all_above es v ws h k.1 a.1 b.1)
 
   -- ascending ones, each above all of the list, go to its end in turn
   pub put_all-above : (es vs : List Meaning) → Each P vs → Ascends R vs → Each (λ w. Each (λ e. R w e ≡ Greater) es) vs → put_all R join es vs ≡ es ++ vs

@@ -1,6 +1,7 @@
 -- What follows of a wire's grammar: bytes are read as a tree exactly where they spell it, and refused exactly for the cause.
 use Rattle.std.specs.Prelude.{◌≡◌, ℕ, suc, ℤ, List, [], ◌∷◌, Bool, true, false, cond, nat_lt, Option, Some, None, Result, Ok, Err}
 use Rattle.std.proofs.Common.{refl, ap, sym, subst, ◌∙◌, inl, inr}
+use Rattle.sw_tree.specs.Laws.Options.{some_is}
 use Rattle.sw_tree.specs.Tree.{Tree}
 use Rattle.sw_tree.specs.Raw.{Raw, null, truth, number, text, bytes, list, map, RawItems, no_items, item, RawEntries, no_entries, entry}
 use Rattle.sw_tree.specs.Faults.{number_fault, faults, items_faults, entries_faults, first, whole, judged_by}
@@ -48,9 +49,6 @@ mutual
 
 -- ---- what is judged
 
-some_is : {A : Type 0} {x y : A} → Some x ≡ Some y → x ≡ y
-some_is h = cc
-
 err_is : {A E : Type 0} {e d : E} → ◌≡◌ {A = Result A E} (Err e) (Err d) → e ≡ d
 err_is h = cc
 
@@ -61,7 +59,7 @@ judged_tree : (fs : List WireError) (t u : Tree) → judged_by fs t ≡ Ok u →
 judged_tree [] t u h = (refl, cc)
 judged_tree (f ∷ fs) t u h = cc
 
-judged_first : (fs : List WireError) (t : Tree) (e : WireError) → first fs ≡ Some e → judged_by fs t ≡ Err e
+pub judged_first : (fs : List WireError) (t : Tree) (e : WireError) → first fs ≡ Some e → judged_by fs t ≡ Err e
 judged_first [] t e h = cc
 judged_first (f ∷ fs) t e h = ap (λ x. Err x) (some_is h)
 

@@ -1,6 +1,7 @@
 -- What the calls of a wire answer, and its laws.
-use Rattle.std.specs.Prelude.{◌≡◌, ◌⊎◌, ℕ, List, [], Option, Some, None, option_map, Result, Ok, Err, Vec}
+use Rattle.std.specs.Prelude.{◌≡◌, ◌⊎◌, ℕ, List, [], Option, Some, option_map, IfSome, Result, Ok, Err, Vec}
 use Rattle.std.specs.declared.alloc.Global.{Global}
+use Rattle.sw_tree.specs.Answered.{Answered, AnsweredOption, wire_cause, print_cause}
 use Rattle.sw_tree.specs.Tree.{Tree}
 use Rattle.sw_tree.specs.Image.{image}
 use Rattle.sw_tree.specs.Proper.{IsNodeTree}
@@ -13,7 +14,6 @@ use Rattle.sw_tree.specs.Doc.{Document}
 use Rattle.sw_tree.specs.declared.fail.WireError.{WireError}
 use Rattle.sw_tree.specs.declared.fail.WireError.TheVariants as wire
 use Rattle.sw_tree.specs.declared.fail.PrintError.{PrintError}
-use Rattle.sw_tree.specs.declared.fail.PrintError.TheVariants as print
 
 -- a wire's grammar: which raw tree bytes spell
 abbrev pub Grammar : Type 1
@@ -53,24 +53,15 @@ IsCause spells bytes wire.Memory = ⊥
 
 -- what refusing the bytes says of them: the cause, or nothing at want of memory
 abbrev pub IsRefused : Grammar → List ℕ → WireError → Type 0
-IsRefused spells bytes wire.Syntax = IsCause spells bytes wire.Syntax
-IsRefused spells bytes (wire.NotWhole at) = IsCause spells bytes (wire.NotWhole at)
-IsRefused spells bytes (wire.TooDeep at) = IsCause spells bytes (wire.TooDeep at)
-IsRefused spells bytes wire.Memory = Unit {0}
+IsRefused spells bytes e = IfSome (wire_cause e) (IsCause spells bytes)
 
 -- a document that means the tree exactly where one is spelled, the error exactly where it is that one, or want of memory
 abbrev pub IsFound : Result Document WireError → Result Tree WireError → Type 0
-IsFound (Ok d) r = r ≡ Ok d.tree
-IsFound (Err wire.Memory) r = Unit {0}
-IsFound (Err wire.Syntax) r = r ≡ Err wire.Syntax
-IsFound (Err (wire.NotWhole e)) r = r ≡ Err (wire.NotWhole e)
-IsFound (Err (wire.TooDeep e)) r = r ≡ Err (wire.TooDeep e)
+IsFound = Answered (λ (d : Document). d.tree) wire_cause
 
 -- the text exactly where there is one, Key exactly where there is none, or want of memory
 abbrev pub IsPrinted : Result (Vec ℕ Global) PrintError → Option (List ℕ) → Type 0
-IsPrinted (Ok v) r = r ≡ Some v.items
-IsPrinted (Err print.Key) r = r ≡ None
-IsPrinted (Err print.Memory) r = Unit {0}
+IsPrinted = AnsweredOption (λ (v : Vec ℕ Global). v.items) print_cause
 
 -- the bytes spell a raw tree, or they spell none
 abbrev pub IsDecided : Grammar → List ℕ → Type 0

@@ -171,7 +171,7 @@ impl<'de> DocBuilder<'de> {
         ensures ok { OnOk result (self.new ≡ added self.old (tree.bytes (slice_range self.old.input start end))) }
         ensures err { OnErr result (self.new ≡ self.old) }
     {
-        let _small = are_bytes(self.input);
+        know_bytes(self.input);
         self.leaf(Cell::Bytes(span_of(start, end)?))
     }
 
@@ -325,12 +325,11 @@ fn span_of(start: usize, end: usize) -> Result<Span, AllocError>
     })
 }
 
-/// Whether these are bytes, as they always are: each is below 256.
-fn are_bytes(source: &[u8]) -> bool
+/// Does nothing; the proof of its caller learns that these are bytes: each is below 256.
+fn know_bytes(source: &[u8])
     ensures { Each (λ b. b < 256) source.now }
 {
     let _count = source.len();
-    true
 }
 
 /// Adds that cell behind the others, of which there stay fewer than 2^32.

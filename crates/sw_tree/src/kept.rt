@@ -1,5 +1,5 @@
 use crate::held::Held;
-use crate::part::{copied_bytes, copied_wides, moved_cells, reach_of, run_at};
+use crate::part::{copied, moved_cells, reach_of, run_at};
 use crate::sheet::Sheet;
 use crate::view::View;
 use std::alloc::{AllocError, Global};
@@ -76,9 +76,9 @@ impl Kept {
     {
         let run = run_at(sheet.cells.as_slice(), at, end);
         let reach = reach_of(run);
-        let own_input = copied_bytes(alloc, input, reach.input)?;
-        let own_side = copied_bytes(alloc, sheet.side.as_slice(), reach.side)?;
-        let own_wides = copied_wides(alloc, sheet.wides.as_slice(), reach.wides)?;
+        let own_input = copied(alloc, input, reach.input)?;
+        let own_side = copied(alloc, sheet.side.as_slice(), reach.side)?;
+        let own_wides = copied(alloc, sheet.wides.as_slice(), reach.wides)?;
         let own_cells = moved_cells(alloc, reach, run)?;
         Ok(Kept {
             input: own_input,

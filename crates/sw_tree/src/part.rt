@@ -4,7 +4,6 @@ ghost use Rattle.std.specs.Prelude.{◌≡◌, ◌≤◌, map, length, slice_ran
 ghost use Rattle.sw_tree.specs.Moved as spec;
 
 use crate::cell::{Cell, Span};
-use crate::whole::Whole;
 use std::alloc::{AllocError, Global};
 
 /// A range of bytes or of numbers.
@@ -139,25 +138,12 @@ pub(crate) fn run_at(cells: &[Cell], at: u32, end: u32) -> &[Cell]
     &cells[at as usize..end as usize]
 }
 
-/// The bytes of that range, copied.
-pub(crate) fn copied_bytes(
+/// What stands in that range, copied.
+pub(crate) fn copied<T: Copy>(
     alloc: Global,
-    source: &[u8],
+    source: &[T],
     range: Stretch,
-) -> Result<Vec<u8>, AllocError>
-    requires ordered { range.start ≤ range.end }
-    requires inside { range.end ≤ length source.now }
-    ensures { IfOk result (λ v. v.items ≡ slice_range source.now range.start range.end) }
-{
-    Vec::from_slice(alloc, &source[range.start..range.end])
-}
-
-/// The numbers of that range, copied.
-pub(crate) fn copied_wides(
-    alloc: Global,
-    source: &[Whole],
-    range: Stretch,
-) -> Result<Vec<Whole>, AllocError>
+) -> Result<Vec<T>, AllocError>
     requires ordered { range.start ≤ range.end }
     requires inside { range.end ≤ length source.now }
     ensures { IfOk result (λ v. v.items ≡ slice_range source.now range.start range.end) }

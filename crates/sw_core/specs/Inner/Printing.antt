@@ -1,6 +1,7 @@
 -- The text of a value: what is printed of the tree that is written for it.
-use Rattle.std.specs.Prelude.{◌≡◌, ℕ, List, Option, Some, None, Result, Ok, Err, Vec}
+use Rattle.std.specs.Prelude.{ℕ, List, Option, Some, None, Result, Ok, Err, Vec}
 use Rattle.std.specs.declared.alloc.Global.{Global}
+use Rattle.sw_tree.specs.Answered.{Answered, write_cause}
 use Rattle.sw_tree.specs.Tree.{Tree}
 use Rattle.sw_tree.specs.Steps.{bind}
 use Rattle.sw_tree.specs.Wires.{Texts, printed}
@@ -8,7 +9,6 @@ use Rattle.sw_tree.specs.declared.mode.WireKind.{WireKind}
 use Rattle.sw_tree.specs.declared.fail.SerError.{SerError}
 use Rattle.sw_tree.specs.declared.fail.SerError.TheVariants as reason
 use Rattle.sw_tree.specs.declared.fail.SerFail.{SerFail}
-use Rattle.sw_tree.specs.declared.fail.SerFail.TheVariants as ser
 
 abbrev pub text_or_key : Option (List ℕ) → Result (List ℕ) SerError
 text_or_key None = Err reason.Key
@@ -19,6 +19,4 @@ abbrev pub printed_as : WireKind → Texts → Result Tree SerError → Result (
 printed_as w text r = bind r (λ t. text_or_key (printed w text t))
 
 abbrev pub IsPrintedAs : Result (Vec ℕ Global) SerFail → Result (List ℕ) SerError → Type 0
-IsPrintedAs (Ok v) r = r ≡ Ok v.items
-IsPrintedAs (Err (ser.Unwritable e)) r = r ≡ Err e
-IsPrintedAs (Err ser.Memory) r = Unit {0}
+IsPrintedAs = Answered (λ (v : Vec ℕ Global). v.items) write_cause

@@ -24,7 +24,7 @@ use Rattle.sw_elem.specs.Lawful.{Lawful, same_norm}
 use Rattle.sw_elem.specs.Leaf.{IsBack, IsLeaf, keeps_leaf, leaf_lawful}
 use Rattle.sw_elem.specs.Text.{LawfulText}
 use Rattle.sw_core.specs.Display.{parsed, display_writes, display_reads}
-use Rattle.sw_core.specs.Laws.Nodes.{root-kind}
+use Rattle.sw_tree.specs.Laws.Nodes.{own_kind}
 
 -- ---- reading
 
@@ -79,7 +79,7 @@ module _ {P : Meaning → Type 0} {shows : Meaning → List ℕ} {parses : List 
 
   display_spot_kinds : (m : Mode) (t : Tree) (k : Kind) → display_reads parses m t ≡ Err (fail.InvalidType k) → HasKind (kinds t) 0 k
   display_spot_kinds m (node.text s) k p = absurd (not_invalid (parses s) k p)
-  display_spot_kinds m t k p = root-kind t k (cc)
+  display_spot_kinds m t k p = own_kind t k (cc)
 
   display_read_kinds : (m : Mode) (t : Tree) (v : Meaning) → display_reads parses m t ≡ Ok v → has (read_at text_facts m) (kind_of t) ≡ true
   display_read_kinds m (node.text s) v p = text_read_on m.wire m.place m.buffered

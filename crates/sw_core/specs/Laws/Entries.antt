@@ -31,7 +31,7 @@ use Rattle.sw_core.specs.Rows.{Reader, reader, turns_by}
 use Rattle.sw_core.specs.Entries.{pair_writes, entries_writes, twos, entries_plan, entries_reads, entries_spot, entries_skips, pair_norm, entries_norm}
 use Rattle.sw_core.specs.Laws.Each.{Beside, each_made, each_imaged, each_back, each_never, each_kept, each_same, each_normed}
 use Rattle.sw_core.specs.Laws.Images.{both_images, entry_image, map-image, mapped_some}
-use Rattle.sw_core.specs.Laws.Nodes.{IsBelow, IsOfKind}
+use Rattle.sw_tree.specs.Laws.Nodes.{IsBelow, IsOfKind}
 use Rattle.sw_core.specs.Laws.Plans.{RefusesItself, plan_lawful, plan_spot_kinds, plan_note_kinds}
 use Rattle.sw_core.specs.Laws.Rows.{EachAt, Refuses, Notes, turns_by-at, reader_below, reader_kinds, reader_notes, AreRead, row-reads}
 use Rattle.sw_core.specs.Laws.Within.{within_ok, within_shallow, within_key}

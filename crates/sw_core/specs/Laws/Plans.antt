@@ -15,7 +15,8 @@ use Rattle.sw_elem.specs.Equations.{LawfulReading}
 use Rattle.sw_elem.specs.Laws.{HasSpotKinds, HasNoteKinds}
 use Rattle.sw_core.specs.Rows.{row_reads, row_spot, row_skips}
 use Rattle.sw_core.specs.Plans.{children, Plans, plan_reads, plan_spot, plan_skips}
-use Rattle.sw_core.specs.Laws.Nodes.{children-nodes, refusal, below, all_below, IsOwn, IsStable, IsBelow, IsOfKind, below-stable, kind-stable, note-stable}
+use Rattle.sw_core.specs.Laws.Nodes.{children-nodes, below, all_below}
+use Rattle.sw_tree.specs.Laws.Nodes.{refusal, IsOwn, IsStable, IsBelow, IsOfKind, below-stable, kind-stable, note-stable}
 use Rattle.sw_core.specs.Laws.Rows.{EachAt, Refuses, Notes, AreRead, row-read, row-refused, row-noted}
 
 -- what is made of the children's values refuses the node for itself alone

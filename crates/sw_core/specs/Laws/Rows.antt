@@ -1,6 +1,7 @@
 -- What a row keeps, from what each of its readers keeps at its tree.
 use Rattle.std.specs.Prelude.{◌≡◌, ◌+◌, List, [], ◌∷◌, ◌++◌, cond, is_ok, Result, Ok, Err}
 use Rattle.std.proofs.Common.{refl, subst, arith}
+use Rattle.sw_tree.specs.Laws.Each.{each_append, each_cond}
 use Rattle.sw_tree.specs.Meaning.{Meaning}
 use Rattle.sw_tree.specs.Nodes.{kinds, kinds-size, IsNoteIn}
 use Rattle.sw_tree.specs.Placed.{Note, moved, spot_next}
@@ -13,7 +14,7 @@ use Rattle.sw_tree.specs.declared.fail.DeError.{DeError}
 use Rattle.sw_elem.specs.Equations.{Reads, Spots, Skips, LawfulReading}
 use Rattle.sw_elem.specs.Laws.{HasSpotKinds, HasNoteKinds}
 use Rattle.sw_core.specs.Rows.{Reader, reader, each_by, turns_by, row_reads, row_spot, row_skips}
-use Rattle.sw_core.specs.Laws.Nodes.{all_kinds, refusal, IsStable, IsBelow, IsOfKind, behind, all_before, all_behind, both_notes, some_notes}
+use Rattle.sw_tree.specs.Laws.Nodes.{all_kinds, refusal, IsStable, IsBelow, IsOfKind, behind, all_before, all_behind}
 
 -- ---- the same of each reader and its tree
 
@@ -111,5 +112,5 @@ module _ (Q : List Kind → Note → Type 0) (s : IsStable Q) {M : Type 0} where
   row-noted (r ∷ rs) (t ∷ ts) h =
       let ks = kinds t ++ all_kinds ts in
       let rest = moved (size t) (row_skips rs ts) in
-      both_notes (Q ks) (r.skips t) (cond (is_ok (r.reads t)) rest []) (all_before Q s (kinds t) (all_kinds ts) (r.skips t) h.0)
-      (some_notes (Q ks) (is_ok (r.reads t)) rest (all_behind Q s t (all_kinds ts) (row_skips rs ts) (row-noted rs ts h.1)))
+      each_append (Q ks) (r.skips t) (cond (is_ok (r.reads t)) rest []) (all_before Q s (kinds t) (all_kinds ts) (r.skips t) h.0)
+      (each_cond (Q ks) (is_ok (r.reads t)) rest (all_behind Q s t (all_kinds ts) (row_skips rs ts) (row-noted rs ts h.1)))

@@ -32,7 +32,7 @@ use Rattle.sw_core.specs.Rows.{Reader, reader, each_by}
 use Rattle.sw_core.specs.Vec.{list_writes, list_plan, list_reads, list_spot, list_skips, list_norm}
 use Rattle.sw_core.specs.Laws.Each.{Beside, each_made, each_imaged, each_back, each_never, each_kept, each_same, each_normed}
 use Rattle.sw_core.specs.Laws.Images.{list-image, mapped_some}
-use Rattle.sw_core.specs.Laws.Nodes.{IsBelow, IsOfKind}
+use Rattle.sw_tree.specs.Laws.Nodes.{IsBelow, IsOfKind}
 use Rattle.sw_core.specs.Laws.Plans.{RefusesItself, plan_lawful, plan_spot_kinds, plan_note_kinds}
 use Rattle.sw_core.specs.Laws.Rows.{EachAt, Refuses, Notes, each_by-at, reader_below, reader_kinds, reader_notes, AreRead, row-reads, each-meant}
 use Rattle.sw_core.specs.Laws.Within.{within_ok, within_shallow, within_key}

@@ -1,6 +1,8 @@
 -- What bytes complete a state to, and that it is what the grammar says.
 use Rattle.std.proofs.Common.{◌≡◌, ◌≤◌, ◌<◌, ℕ, zero, suc, ◌+◌, ◌-◌, List, [], ◌∷◌, length, length-append, Option, Some, None, Bool, true, false, refl, ap, sym, subst, ◌∙◌, arith, cond, inl, inr}
 use Rattle.std.specs.Prelude.{option_and_then, option_map, Ok, Err}
+use Rattle.sw_json.specs.Laws.Numbers.{empty_is}
+use Rattle.sw_tree.specs.Laws.Options.{some_is, none_some, bind_some, map_some}
 use Rattle.sw_tree.specs.Tree.{Tree}
 use Rattle.sw_tree.specs.Raw as shape
 use Rattle.sw_tree.specs.Faults as fault
@@ -20,34 +22,11 @@ use Rattle.sw_json.specs.Laws.Fronts.{split}
 use Rattle.sw_json.specs.Laws.Lexemes.{found, taken, front_shorter}
 use Rattle.sw_json.specs.Laws.Structure.{reads_tree, tree_read}
 
-some_is : {A : Type 0} {x y : A} → Some x ≡ Some y → x ≡ y
-some_is h = cc
-
-none_some : {A : Type 0} {x : A} → None ≡ Some x → ⊥
-none_some h = cc
-
-bind_some : {A B : Type 0} (f : A → Option B) (o : Option A) (y : B) → option_and_then f o ≡ Some y → (x : A) × (o ≡ Some x) × (f x ≡ Some y)
-bind_some f None y h = cc
-bind_some f (Some x) y h = (x, refl, h)
-
-map_some : {A B : Type 0} (f : A → B) (o : Option A) (y : B) → option_map f o ≡ Some y → (x : A) × (o ≡ Some x) × (f x ≡ y)
-map_some f None y h = cc
-map_some f (Some x) y h = (x, refl, cc)
-
 is_empty-nil : (bytes : List ℕ) → bytes ≡ [] → is_empty bytes ≡ true
 is_empty-nil [] h = refl
 is_empty-nil (b ∷ bs) h = cc
 
-nil_is : (bytes : List ℕ) → is_empty bytes ≡ true → bytes ≡ []
-nil_is [] h = refl
-nil_is (b ∷ bs) h = cc
-
 -- ---- one token
-
-no_token : (at : ℕ) (bytes : List ℕ) (y : Token × List ℕ) → bytes ≡ [] → lexeme at bytes ≡ Some y → ⊥
-unfolding lexeme
-no_token at [] y e h = cc
-no_token at (b ∷ bs) y e h = cc
 
 full : (at : ℕ) (bytes : List ℕ) (y : Token × List ℕ) → lexeme at bytes ≡ Some y → is_empty bytes ≡ false
 unfolding lexeme
@@ -83,7 +62,7 @@ lexes_lexed (t ∷ ts) (suc n) end bytes k l =
     lexed_more n end bytes (t, l.0) h ∙ ap (option_map (λ us. t ∷ us)) (lexes_lexed ts n end l.0 small l.2)
 
 chosen_end : (b : Bool) (bytes : List ℕ) (end : ℕ) (ts : List Token) → is_empty (skip bytes) ≡ b → cond b (Some []) None ≡ Some ts → Lexes end bytes ts
-chosen_end true bytes end ts e h = subst (λ us. Lexes end bytes us) (some_is h) (nil_is (skip bytes) e)
+chosen_end true bytes end ts e h = subst (λ us. Lexes end bytes us) (some_is h) (empty_is (skip bytes) e)
 chosen_end false bytes end ts e h = absurd (none_some h)
 
 lexed_step : (n end : ℕ) (bytes : List ℕ) (ts : List Token) → ((rest : List ℕ) (us : List Token) → lex n end rest ≡ Some us → Lexes end rest us)

@@ -1,13 +1,11 @@
 -- A tree has no image in JSON exactly where some key is of a kind that is none.
-use Rattle.std.proofs.Common.{◌≡◌, [], Option, Some, None, option_map, refl, ap, sym, inl, inr}
+use Rattle.std.proofs.Common.{◌≡◌, Option, Some, None, option_map, refl, ap, sym, inl, inr, []}
 use Rattle.std.specs.Prelude.{◌⊎◌}
+use Rattle.sw_tree.specs.Laws.Options.{none_some}
 use Rattle.sw_tree.specs.Tree.{Tree, null, truth, int, text, bytes, list, map, Trees, no_trees, tree, Entries, no_entries, entry}
 use Rattle.sw_tree.specs.Image.{key_image, next_tree, next_entry, value_image, trees_image, entries_image}
 use Rattle.sw_json.specs.Images.{IsOtherKey, HasOtherKey, HaveOtherKey, EntriesHaveOtherKey}
 use Rattle.sw_json.specs.Text.{text_of, json_text}
-
-none_some : {A : Type 0} {x : A} → None ≡ Some x → ⊥
-none_some h = cc
 
 -- ---- such a key has no image, nor has what it is in
 

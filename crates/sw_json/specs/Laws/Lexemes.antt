@@ -3,6 +3,7 @@ use Rattle.std.proofs.Common.{◌≡◌, ◌≢◌, Bor, ℕ, ◌<◌, List, [],
 use Rattle.std.proofs.lemmas.Bool.Decides.{nat_tests}
 use Rattle.std.specs.Prelude.{option_map, MatchOption, codes}
 use Rattle.std.specs.List.{list_all}
+use Rattle.sw_tree.specs.Laws.Options.{some_is, map_some}
 use Rattle.sw_json.specs.Token.{Token}
 use Rattle.sw_json.specs.Bytes.{front, behind, behind_word, Stops, is_digit, is_number_byte}
 use Rattle.sw_json.specs.Quoted.{IsQuoted, quoted}
@@ -11,13 +12,6 @@ use Rattle.sw_json.specs.Lexing.{is_number, number_token, text_token, word_token
 use Rattle.sw_json.specs.Laws.Fronts.{split, front_is, behind_is, behind_stops, and_left}
 use Rattle.sw_json.specs.Laws.Numbers.{chosen, is_eq, number_passes, is_number-IsNumber, number_bytes, number_length}
 use Rattle.sw_json.specs.Laws.Quoting.{quoted_found, quoted_taken}
-
-some_is : {A : Type 0} {x y : A} → Some x ≡ Some y → x ≡ y
-some_is h = cc
-
-map_some : {A B : Type 0} (f : A → B) (o : Option A) (y : B) → option_map f o ≡ Some y → (x : A) × (o ≡ Some x) × (f x ≡ y)
-map_some f None y h = cc
-map_some f (Some x) y h = (x, refl, cc)
 
 -- the byte begins a literal or a number, if any token
 pub record IsOther (b : ℕ) : Type 0 where

@@ -29,7 +29,7 @@ pub leading_isnt_minus : (d : ℕ) → is_leading d ≡ true → eqb d 45 ≡ fa
 unfolding is_leading
 leading_isnt_minus d h = grind (arith, nat_tests)
 
-leading_digit : (b : ℕ) → is_leading b ≡ true → is_digit b ≡ true
+pub leading_digit : (b : ℕ) → is_leading b ≡ true → is_digit b ≡ true
 unfolding is_leading is_digit
 leading_digit b h = grind (arith, nat_tests)
 

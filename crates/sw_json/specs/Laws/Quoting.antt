@@ -1,37 +1,17 @@
 -- What is found behind an opening quotation mark is the text there, and the only one.
 use Rattle.std.proofs.Common.{◌≡◌, ℕ, zero, suc, ◌+◌, ◌-◌, ◌≤◌, ◌<◌, List, [], ◌∷◌, ◌++◌, length, take, take_at, length-append, Option, Some, None, Bool, true, false, cond, eqb, refl, ap, sym, subst, ◌∙◌, inl, inr, arith}
 use Rattle.std.proofs.lemmas.Bool.Decides.{nat_tests}
-use Rattle.std.proofs.lemmas.List.{append-nil}
 use Rattle.std.specs.Prelude.{◌⊎◌, ◌&&◌, ◌||◌, option_map, option_and_then}
 use Rattle.std.specs.Char.{encode_utf8}
 use Rattle.std.specs.Char.Utf16.{is_high_surrogate, is_low_surrogate, surrogate_pair_char}
 use Rattle.std.specs.List.{list_all}
 use Rattle.std.specs.Str.{is_utf8, IsUtf8}
 use Rattle.std.proofs.lemmas.Str.{is_utf8-from_IsUtf8, IsUtf8-from_is_utf8}
+use Rattle.sw_json.specs.Laws.Numbers.{chosen, is_eq}
+use Rattle.sw_tree.specs.Laws.Options.{some_is, none_some, bind_some, map_some}
 use Rattle.sw_json.specs.Bytes.{is_plain}
 use Rattle.sw_json.specs.Quoted.{Hex, hex, Piece, plain, short, unit, pair, is_short, short_character, are_hex, code, IsPiece, meaning, spelled_hex, spelled, spelling_of, ArePieces, meanings, IsQuoted, has_escape, hex_at, if_low, low_at, if_unit, unit_at, escape_at, piece_at, at_quote, quote_or, before, content, with_spelling, quoted}
 use Rattle.sw_json.specs.Laws.Fronts.{and_left, and_right}
-
-pub chosen : {A : Type 0} (b : Bool) (x y z : A) → cond b x y ≡ z → ((b ≡ true) × (x ≡ z)) ⊎ ((b ≡ false) × (y ≡ z))
-chosen true x y z h = inl (refl, h)
-chosen false x y z h = inr (refl, h)
-
-pub is_eq : (a b : ℕ) → eqb a b ≡ true → a ≡ b
-is_eq a b h = grind (arith, nat_tests)
-
-pub the_some : {A : Type 0} {a b : A} → Some a ≡ Some b → a ≡ b
-the_some h = cc
-
-pub none_some : {A : Type 0} {x : A} → None ≡ Some x → ⊥
-none_some h = cc
-
-bind_some : {A B : Type 0} (f : A → Option B) (o : Option A) (y : B) → option_and_then f o ≡ Some y → (x : A) × (o ≡ Some x) × (f x ≡ Some y)
-bind_some f None y h = cc
-bind_some f (Some x) y h = (x, refl, h)
-
-map_some : {A B : Type 0} (f : A → B) (o : Option A) (y : B) → option_map f o ≡ Some y → (x : A) × (o ≡ Some x) × (f x ≡ y)
-map_some f None y h = cc
-map_some f (Some x) y h = (x, refl, cc)
 
 -- ---- from the grammar to what is computed
 
@@ -132,7 +112,7 @@ record HexTaken (bytes : List ℕ) (c : ℕ) (k : List ℕ) : Type 0 where
 
 hex_taken : (bs : List ℕ) (y : ℕ × List ℕ) → hex_at bs ≡ Some y → HexTaken bs y.0 y.1
 hex_taken (a ∷ b ∷ c ∷ d ∷ k) y z = elim (chosen (are_hex (hex a b c d)) (Some (code (hex a b c d), k)) None (Some y) z) [
-  | inl m ↦ let e = the_some m.1 in record { digits = hex a b c d; are = m.0; means = ap (λ w. w.0) e; spells = ap (λ w. a ∷ b ∷ c ∷ d ∷ w.1) e }
+  | inl m ↦ let e = some_is m.1 in record { digits = hex a b c d; are = m.0; means = ap (λ w. w.0) e; spells = ap (λ w. a ∷ b ∷ c ∷ d ∷ w.1) e }
   | inr m ↦ absurd (none_some m.1)
 ]
 hex_taken bs y z = absurd (none_some z)
@@ -147,7 +127,7 @@ record LowTaken (bytes : List ℕ) (high c : ℕ) (k : List ℕ) : Type 0 where
 
 low_is : (high : ℕ) (bs : List ℕ) (x y : ℕ × List ℕ) → HexTaken bs x.0 x.1 → if_low high x ≡ Some y → LowTaken (92 ∷ 117 ∷ bs) high y.0 y.1
 low_is high bs x y h z = elim (chosen (is_low_surrogate x.0) (Some (surrogate_pair_char high x.0, x.1)) None (Some y) z) [
-  | inl m ↦ let e = the_some m.1 in record {
+  | inl m ↦ let e = some_is m.1 in record {
     digits = h.digits;
     are = h.are;
     is_low = ap is_low_surrogate h.means ∙ m.0;
@@ -183,7 +163,7 @@ if_unit_taken bs x y h z = elim (chosen (is_high_surrogate x.0) (low_at x.0 x.1)
   }
   | inr m ↦ elim (chosen (is_low_surrogate x.0) None (Some x) (Some y) m.1) [
     | inl n ↦ absurd (none_some n.1)
-    | inr n ↦ let e = the_some n.1 in record {
+    | inr n ↦ let e = some_is n.1 in record {
       piece = unit h.digits;
       lawful = (h.are, ap is_high_surrogate h.means ∙ m.0, ap is_low_surrogate h.means ∙ n.0);
       means = ap encode_utf8 (h.means ∙ ap (λ w. w.0) e);
@@ -198,7 +178,7 @@ escape_taken [] y z = absurd (none_some z)
 escape_taken (x ∷ bs) y z = elim (chosen (eqb x 117) (unit_at bs) (cond (is_short x) (Some (short_character x, bs)) None) (Some y) z) [
   | inl m ↦ let b = bind_some if_unit (hex_at bs) y m.1 in rw (is_eq x 117 m.0) (if_unit_taken bs b.0 y (hex_taken bs b.0 b.1) b.2)
   | inr m ↦ elim (chosen (is_short x) (Some (short_character x, bs)) None (Some y) m.1) [
-    | inl n ↦ let e = the_some n.1 in record { piece = short x; lawful = n.0; means = ap (λ w. encode_utf8 w.0) e; spells = ap (λ w. 92 ∷ x ∷ w.1) e }
+    | inl n ↦ let e = some_is n.1 in record { piece = short x; lawful = n.0; means = ap (λ w. encode_utf8 w.0) e; spells = ap (λ w. 92 ∷ x ∷ w.1) e }
     | inr n ↦ absurd (none_some n.1)
   ]
 ]
@@ -211,7 +191,7 @@ piece_taken (b ∷ bs) y z = elim (chosen (eqb b 92) (option_map (λ x. (encode_
       let x = map_some (λ (x : ℕ × List ℕ). (encode_utf8 x.0, x.1)) (escape_at bs) y m.1 in
       rw (is_eq b 92 m.0) (subst (λ (w : List ℕ × List ℕ). Taken (92 ∷ bs) w.0 w.1) x.2 (escape_taken bs x.0 x.1))
   | inr m ↦ elim (chosen (is_plain b) (Some (b ∷ [], bs)) None (Some y) m.1) [
-    | inl n ↦ let e = the_some n.1 in record { piece = plain b; lawful = n.0; means = ap (λ w. w.0) e; spells = ap (λ w. b ∷ w.1) e }
+    | inl n ↦ let e = some_is n.1 in record { piece = plain b; lawful = n.0; means = ap (λ w. w.0) e; spells = ap (λ w. b ∷ w.1) e }
     | inr n ↦ absurd (none_some n.1)
   ]
 ]
@@ -222,7 +202,7 @@ piece_shorter bs y h = let t = piece_taken bs y h in omega (arith, spelled_longe
 quote_taken : (bs rest : List ℕ) → at_quote bs ≡ Some rest → bs ≡ 34 ∷ rest
 quote_taken [] rest z = absurd (none_some z)
 quote_taken (q ∷ bs) rest z = elim (chosen (eqb q 34) (Some bs) None (Some rest) z) [
-  | inl m ↦ rw (is_eq q 34 m.0, the_some m.1) refl
+  | inl m ↦ rw (is_eq q 34 m.0, some_is m.1) refl
   | inr m ↦ absurd (none_some m.1)
 ]
 
@@ -236,7 +216,7 @@ record ContentTaken (bytes t rest : List ℕ) : Type 0 where
 closed : (bs : List ℕ) (y : List ℕ × List ℕ) (o : Option (List ℕ)) (r : Option (List ℕ × List ℕ)) → at_quote bs ≡ o → quote_or o r ≡ Some y → ContentTaken bs y.0 y.1 ⊎ (r ≡ Some y)
 closed bs y None r e z = inr z
 closed bs y (Some rest) r e z =
-    inl (subst (λ (w : List ℕ × List ℕ). ContentTaken bs w.0 w.1) (the_some z) (record { pieces = []; lawful = tt; means = refl; spells = quote_taken bs rest e }))
+    inl (subst (λ (w : List ℕ × List ℕ). ContentTaken bs w.0 w.1) (some_is z) (record { pieces = []; lawful = tt; means = refl; spells = quote_taken bs rest e }))
 
 one_more : (bs : List ℕ) (x w y : List ℕ × List ℕ) → Taken bs x.0 x.1 → ContentTaken x.1 w.0 w.1 → (x.0 ++ w.0, w.1) ≡ y → ContentTaken bs y.0 y.1
 one_more bs x w y p t e = subst (λ (v : List ℕ × List ℕ). ContentTaken bs v.0 v.1) e (record {
@@ -263,7 +243,7 @@ quoted_is bytes x y c z = elim (chosen (is_utf8 x.0) (Some (take (length bytes -
       let s = spelling_of c.pieces [] in
       let e : bytes ≡ s ++ 34 ∷ x.1 = c.spells ∙ spelling_append c.pieces (34 ∷ x.1) in
       let f : take (length bytes - length x.1 - 1) bytes ≡ s = ap (λ b. take (length b - length x.1 - 1) b) e ∙ spelling_taken s x.1 in
-      subst (λ (w : List ℕ × (List ℕ × List ℕ)). IsQuoted w.0 w.1.0 × (bytes ≡ w.0 ++ 34 ∷ w.1.1)) (the_some m.1)
+      subst (λ (w : List ℕ × (List ℕ × List ℕ)). IsQuoted w.0 w.1.0 × (bytes ≡ w.0 ++ 34 ∷ w.1.1)) (some_is m.1)
       (record { pieces = c.pieces; lawful = c.lawful; spells = f; means = c.means; is_text = IsUtf8-from_is_utf8 x.0 m.0 }, e ∙ ap (λ a. a ++ 34 ∷ x.1) (sym f))
   | inr m ↦ absurd (none_some m.1)
 ]
@@ -275,20 +255,7 @@ quoted_taken bytes s t rest z =
     let b = bind_some (with_spelling bytes) (content (length bytes) bytes) (s, (t, rest)) z in
     quoted_is bytes b.0 (s, (t, rest)) (content_taken (length bytes) bytes b.0 b.1) b.2
 
--- so a spelling has one text, and bytes begin with one spelling
-pub same_text : (s t u : List ℕ) → IsQuoted s t → IsQuoted s u → t ≡ u
-same_text s t u q r = ap (λ y. y.1.0) (the_some (sym (quoted_found (s ++ 34 ∷ []) s t [] q refl) ∙ quoted_found (s ++ 34 ∷ []) s u [] r refl))
-
-pub same_spelling : (r s t u k m : List ℕ) → IsQuoted r t → IsQuoted s u → r ++ 34 ∷ k ≡ s ++ 34 ∷ m → (r ≡ s) × (t ≡ u) × (k ≡ m)
-same_spelling r s t u k m p q e =
-    let f = the_some (sym (quoted_found (r ++ 34 ∷ k) r t k p refl) ∙ quoted_found (r ++ 34 ∷ k) s u m q e) in
-    (ap (λ y. y.0) f, ap (λ y. y.1.0) f, ap (λ y. y.1.1) f)
-
 -- ---- texts without a backslash
-
-or_left : (a b : Bool) → (a || b) ≡ false → a ≡ false
-or_left true b h = cc
-or_left false b h = refl
 
 or_right : (a b : Bool) → (a || b) ≡ false → b ≡ false
 or_right true b h = cc
@@ -303,39 +270,8 @@ pieces_plain (short b ∷ ps) h e = cc
 pieces_plain (unit d ∷ ps) h e = cc
 pieces_plain (pair d l ∷ ps) h e = cc
 
--- such a text is its spelling
-pub unescaped_text : (s t : List ℕ) → IsQuoted s t → has_escape s ≡ false → t ≡ s
-unescaped_text s t q e = q.means ∙ (pieces_plain q.pieces q.lawful (ap has_escape (sym q.spells) ∙ e)).0 ∙ sym q.spells
-
 pub unescaped_plain : (s t : List ℕ) → IsQuoted s t → has_escape s ≡ false → list_all is_plain s ≡ true
 unescaped_plain s t q e = ap (list_all is_plain) q.spells ∙ (pieces_plain q.pieces q.lawful (ap has_escape (sym q.spells) ∙ e)).1
-
--- plain bytes, each a piece of its own
-abbrev pub plains : List ℕ → List Piece
-plains [] = []
-plains (b ∷ bs) = plain b ∷ plains bs
-
-plains_lawful : (s : List ℕ) → list_all is_plain s ≡ true → ArePieces (plains s)
-plains_lawful [] h = tt
-plains_lawful (b ∷ bs) h = (and_left (is_plain b) (list_all is_plain bs) h, plains_lawful bs (and_right (is_plain b) (list_all is_plain bs) h))
-
-plains_spell : (s k : List ℕ) → spelling_of (plains s) k ≡ s ++ k
-plains_spell [] k = refl
-plains_spell (b ∷ bs) k = ap (λ x. b ∷ x) (plains_spell bs k)
-
-plains_mean : (s : List ℕ) → meanings (plains s) ≡ s
-plains_mean [] = refl
-plains_mean (b ∷ bs) = ap (λ x. b ∷ x) (plains_mean bs)
-
--- plain bytes that are UTF-8 spell themselves, with no backslash among them
-pub plain_quoted : (s : List ℕ) → list_all is_plain s ≡ true → IsUtf8 s → IsQuoted s s
-plain_quoted s h u = record {
-  pieces = plains s;
-  lawful = plains_lawful s h;
-  spells = sym (plains_spell s [] ∙ append-nil s);
-  means = sym (plains_mean s);
-  is_text = u;
-}
 
 pub plain_has_none : (s : List ℕ) → list_all is_plain s ≡ true → has_escape s ≡ false
 plain_has_none [] h = refl

@@ -1,6 +1,6 @@
 -- The machine makes a tree of exactly its tokens.
-use Rattle.std.proofs.Common.{◌≡◌, ℕ, List, [], ◌∷◌, Option, Some, None, refl, ap, sym, ◌∙◌}
-use Rattle.std.specs.Prelude.{option_and_then}
+use Rattle.std.proofs.Common.{◌≡◌, ℕ, List, [], ◌∷◌, Some, refl, ap, sym, ◌∙◌}
+use Rattle.sw_tree.specs.Laws.Options.{some_is, none_some, bind_some}
 use Rattle.sw_json.specs.Token.{Quote, Token}
 use Rattle.sw_json.specs.Raw.{Raw, RawItems, no_items, item, RawEntries, no_entries, entry, tokens, items_tokens, more_tokens, entries_tokens, more_entries}
 use Rattle.sw_json.specs.Raw as raw
@@ -124,43 +124,37 @@ entries-enter : (es : RawEntries) (j : Quote) (r : Raw) (k : List Token) → ent
 entries-enter no_entries j r k = refl
 entries-enter (entry i q es) j r k = ap (λ x. Token.text i ∷ Token.colon ∷ tokens q x) (more-enter es j r k)
 
-the_some : {A : Type 0} {a b : A} → Some a ≡ Some b → a ≡ b
-the_some h = cc
-
-none_some : {A : Type 0} {x : A} → None ≡ Some x → ⊥
-none_some h = cc
-
 seen_value : (ls : List Level) (t : Token) (k : List Token) (next : State) → step_value ls t ≡ Some next → open_levels ls (t ∷ k) ≡ seen next k
-seen_value ls (Token.null at) k next h = ap (λ s. seen s k) (the_some h)
-seen_value ls (Token.truth at b) k next h = ap (λ s. seen s k) (the_some h)
-seen_value ls (Token.number at x) k next h = ap (λ s. seen s k) (the_some h)
-seen_value ls (Token.text q) k next h = ap (λ s. seen s k) (the_some h)
-seen_value ls (Token.open_list at) k next h = ap (λ s. seen s k) (the_some h)
-seen_value ls (Token.open_map at) k next h = ap (λ s. seen s k) (the_some h)
+seen_value ls (Token.null at) k next h = ap (λ s. seen s k) (some_is h)
+seen_value ls (Token.truth at b) k next h = ap (λ s. seen s k) (some_is h)
+seen_value ls (Token.number at x) k next h = ap (λ s. seen s k) (some_is h)
+seen_value ls (Token.text q) k next h = ap (λ s. seen s k) (some_is h)
+seen_value ls (Token.open_list at) k next h = ap (λ s. seen s k) (some_is h)
+seen_value ls (Token.open_map at) k next h = ap (λ s. seen s k) (some_is h)
 seen_value ls t k next h = absurd (none_some h)
 
 seen_fresh_list : (at : ℕ) (ls : List Level) (t : Token) (k : List Token) (next : State) → step_fresh_list at ls t ≡ Some next → open_levels ls (Token.open_list at ∷ t ∷ k) ≡ seen next k
-seen_fresh_list at ls Token.close_list k next h = ap (λ s. seen s k) (the_some h)
+seen_fresh_list at ls Token.close_list k next h = ap (λ s. seen s k) (some_is h)
 seen_fresh_list at ls t k next h = seen_value (in_list at no_items ∷ ls) t k next h
 
 seen_name : (at : ℕ) (es : RawEntries) (ls : List Level) (t : Token) (k : List Token) (next : State) → step_name at es ls t ≡ Some next → open_levels ls (Token.open_map at ∷ entries_with_commas es (t ∷ k)) ≡ seen next k
-seen_name at es ls (Token.text q) k next h = ap (λ s. seen s k) (the_some h)
+seen_name at es ls (Token.text q) k next h = ap (λ s. seen s k) (some_is h)
 seen_name at es ls t k next h = absurd (none_some h)
 
 seen_fresh_map : (at : ℕ) (ls : List Level) (t : Token) (k : List Token) (next : State) → step_fresh_map at ls t ≡ Some next → open_levels ls (Token.open_map at ∷ t ∷ k) ≡ seen next k
-seen_fresh_map at ls Token.close_map k next h = ap (λ s. seen s k) (the_some h)
+seen_fresh_map at ls Token.close_map k next h = ap (λ s. seen s k) (some_is h)
 seen_fresh_map at ls t k next h = seen_name at no_entries ls t k next h
 
 seen_colon : (at : ℕ) (es : RawEntries) (j : Quote) (ls : List Level) (t : Token) (k : List Token) (next : State) → step_colon at es j ls t ≡ Some next
     → open_levels ls (Token.open_map at ∷ entries_with_commas es (Token.text j ∷ t ∷ k)) ≡ seen next k
-seen_colon at es j ls Token.colon k next h = ap (λ s. seen s k) (the_some h)
+seen_colon at es j ls Token.colon k next h = ap (λ s. seen s k) (some_is h)
 seen_colon at es j ls t k next h = absurd (none_some h)
 
 seen_after : (r : Raw) (l : Level) (ls : List Level) (t : Token) (k : List Token) (next : State) → step_after r l ls t ≡ Some next → open_levels (l ∷ ls) (tokens r (t ∷ k)) ≡ seen next k
-seen_after r (in_list at rs) ls Token.close_list k next h = ap (λ x. open_levels ls (Token.open_list at ∷ x)) (sym (items-push rs r k)) ∙ ap (λ s. seen s k) (the_some h)
-seen_after r (in_list at rs) ls Token.comma k next h = ap (λ x. open_levels ls (Token.open_list at ∷ x)) (sym (with_commas-push rs r k)) ∙ ap (λ s. seen s k) (the_some h)
-seen_after r (in_map at es j) ls Token.close_map k next h = ap (λ x. open_levels ls (Token.open_map at ∷ x)) (sym (entries-enter es j r k)) ∙ ap (λ s. seen s k) (the_some h)
-seen_after r (in_map at es j) ls Token.comma k next h = ap (λ x. open_levels ls (Token.open_map at ∷ x)) (sym (commas-enter es j r k)) ∙ ap (λ s. seen s k) (the_some h)
+seen_after r (in_list at rs) ls Token.close_list k next h = ap (λ x. open_levels ls (Token.open_list at ∷ x)) (sym (items-push rs r k)) ∙ ap (λ s. seen s k) (some_is h)
+seen_after r (in_list at rs) ls Token.comma k next h = ap (λ x. open_levels ls (Token.open_list at ∷ x)) (sym (with_commas-push rs r k)) ∙ ap (λ s. seen s k) (some_is h)
+seen_after r (in_map at es j) ls Token.close_map k next h = ap (λ x. open_levels ls (Token.open_map at ∷ x)) (sym (entries-enter es j r k)) ∙ ap (λ s. seen s k) (some_is h)
+seen_after r (in_map at es j) ls Token.comma k next h = ap (λ x. open_levels ls (Token.open_map at ∷ x)) (sym (commas-enter es j r k)) ∙ ap (λ s. seen s k) (some_is h)
 seen_after r l ls t k next h = absurd (none_some h)
 
 seen_step : (s : State) (t : Token) (k : List Token) (next : State) → step s t ≡ Some next → seen s (t ∷ k) ≡ seen next k
@@ -173,12 +167,8 @@ seen_step (after r []) t k next h = absurd (none_some h)
 seen_step (after r (l ∷ ls)) t k next h = seen_after r l ls t k next h
 
 seen_root : (s : State) (r : Raw) → root s ≡ Some r → seen s [] ≡ tokens r []
-seen_root (after q []) r h = ap (λ x. tokens x []) (the_some h)
+seen_root (after q []) r h = ap (λ x. tokens x []) (some_is h)
 seen_root s r h = absurd (none_some h)
-
-bind_some : {A B : Type 0} (f : A → Option B) (o : Option A) (y : B) → option_and_then f o ≡ Some y → (x : A) × (o ≡ Some x) × (f x ≡ Some y)
-bind_some f None y h = cc
-bind_some f (Some x) y h = (x, refl, h)
 
 -- what is read is made of these tokens
 pub made : (ts : List Token) (s : State) (r : Raw) → run s ts ≡ Some r → seen s ts ≡ tokens r []

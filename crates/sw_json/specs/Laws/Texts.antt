@@ -1,10 +1,8 @@
 -- The text of a tree in front of a rest, and the texts of lists and maps by their parts.
-use Rattle.std.proofs.Common.{◌≡◌, ℕ, List, [], ◌∷◌, ◌++◌, true, false, refl, ap, sym, ◌∙◌, append_assoc, Option, Some, None, option_map, pos}
-use Rattle.std.proofs.lemmas.List.{append-nil}
+use Rattle.std.proofs.Common.{◌≡◌, ℕ, List, [], ◌∷◌, ◌++◌, true, false, refl, ap, sym, ◌∙◌, append_assoc, Option, Some, None, option_map}
 use Rattle.std.specs.Prelude.{codes}
-use Rattle.std.specs.Fmt.{signed_decimal}
 use Rattle.sw_tree.specs.Tree.{Tree, null, truth, int, text, bytes, list, map, Trees, no_trees, tree, trees, Entries, no_entries, entry, entries}
-use Rattle.sw_tree.specs.Image.{value_image, key_image, trees_image, entries_image, numbers, next_tree, next_entry}
+use Rattle.sw_tree.specs.Image.{value_image, key_image, trees_image, entries_image, next_tree, next_entry}
 use Rattle.sw_json.specs.Text.{escaped, text_of, items_text, more_items, entries_text, more_entries, json_text}
 use Rattle.sw_json.specs.Laws.PrintedTexts.{escaped-append}
 use Rattle.sw_json.specs.Pushed.{joined, entry_text, more_items_text, more_entries_text}
@@ -84,16 +82,6 @@ behind-joined (Some key) (Some value) (Some es) = ap (λ r. Some (44 ∷ r)) (en
 
 pub behind_text : (e : Tree × Tree) (es : List (Tree × Tree)) → more_entries_text (e ∷ es) ≡ joined (Some (codes ",")) (joined (entry_text e.0 e.1) (more_entries_text es))
 behind_text e es = behind-joined (key_image e.0) (value_image e.1) (entries_image (entries es))
-
-pub number_text : (n : ℕ) → json_text (int (pos n)) ≡ Some (signed_decimal (pos n))
-number_text n = ap Some (append-nil (signed_decimal (pos n)))
-
--- a list of numbers, by its first
-pub numbers_text : (b : ℕ) (bs : List ℕ) → json_text (bytes (b ∷ bs)) ≡ joined (Some (codes "[")) (joined (json_text (int (pos b))) (Some (more_items (numbers bs) [])))
-numbers_text b bs = ap (λ r. Some (91 ∷ r)) (text_of-rest (int (pos b)) (more_items (numbers bs) []))
-
-pub more_numbers : (b : ℕ) (bs : List ℕ) → Some (more_items (numbers (b ∷ bs)) []) ≡ joined (Some (codes ",")) (joined (json_text (int (pos b))) (Some (more_items (numbers bs) [])))
-more_numbers b bs = ap (λ r. Some (44 ∷ r)) (text_of-rest (int (pos b)) (more_items (numbers bs) []))
 
 -- a text, by what stands between its quotes
 pub quoted_text : (s : List ℕ) → json_text (text s) ≡ joined (Some (codes "\"")) (joined (Some (escaped s [])) (Some (codes "\"")))

@@ -34,9 +34,6 @@ nil-joined (Some a) = refl
 regroup : (x a b r : Option (List ℕ)) → joined (joined x (joined a b)) r ≡ joined x (joined a (joined b r))
 regroup x a b r = joined-assoc x (joined a b) r ∙ ap (joined x) (joined-assoc a b r)
 
-ended : (a j r e : Option (List ℕ)) → joined (joined a (joined j r)) e ≡ joined a (joined j (joined r e))
-ended a j r e = joined-assoc a (joined j r) e ∙ ap (joined a) (joined-assoc j r e)
-
 -- a first part, further ones and the end, put in one after another
 from_first : (x a o j r e m : Option (List ℕ)) → joined r e ≡ m → joined (joined (joined (joined x (joined a o)) (joined (Some []) j)) r) e ≡ joined x (joined a (joined o (joined j m)))
 from_first x a o j r e m k =
@@ -84,7 +81,7 @@ puts-items (t ∷ ts) x h o =
 rest_items-ended : (ts : List Tree) → joined (rest_items ts) (Some (codes "]")) ≡ more_items_text ts
 rest_items-ended [] = refl
 rest_items-ended (t ∷ ts) =
-    ended (Some (codes ",")) (json_text t) (rest_items ts) (Some (codes "]"))
+    regroup (Some (codes ",")) (json_text t) (rest_items ts) (Some (codes "]"))
     ∙ ap (λ r. joined (Some (codes ",")) (joined (json_text t) r)) (rest_items-ended ts)
     ∙ sym (more_text t ts)
 
@@ -142,7 +139,7 @@ puts-entries (p ∷ es) x h o =
 rest_entries-ended : (es : List (Tree × Tree)) → joined (rest_entries es) (Some (codes "}")) ≡ more_entries_text es
 rest_entries-ended [] = refl
 rest_entries-ended (p ∷ es) =
-    ended (Some (codes ",")) (entry_text p.0 p.1) (rest_entries es) (Some (codes "}"))
+    regroup (Some (codes ",")) (entry_text p.0 p.1) (rest_entries es) (Some (codes "}"))
     ∙ ap (λ r. joined (Some (codes ",")) (joined (entry_text p.0 p.1) r)) (rest_entries-ended es)
     ∙ sym (behind_text p es)
 

@@ -1,9 +1,10 @@
 -- What trying options in order answers, and what it logs.
-use Rattle.std.specs.Prelude.{◌≡◌, List, [], ◌∷◌, ◌++◌, Option, Some, Result, Ok, Err}
+use Rattle.std.specs.Prelude.{List, [], ◌∷◌, Option, Some, None, Result, Ok, Err}
+use Rattle.sw_tree.specs.Answered.{Answered, AnsweredFreely}
+use Rattle.sw_tree.specs.Logged.{Logged}
 use Rattle.sw_tree.specs.Meaning.{Meaning}
 use Rattle.sw_tree.specs.declared.fail.DeKind.{DeKind}
 use Rattle.sw_tree.specs.declared.fail.Refusal.{Refusal}
-use Rattle.sw_elem.specs.Answers.{IsCut}
 use Rattle.sw_policy.specs.PickFirst.{four}
 use Rattle.sw_policy.specs.declared.options.NoOption.{NoOption}
 use Rattle.sw_policy.specs.declared.options.NoOption.TheVariants.{Refused, Memory}
@@ -18,20 +19,19 @@ abbrev pub before : DeKind → List (Option DeKind) → List (Option DeKind)
 before k (a ∷ b ∷ c ∷ os) = Some k ∷ a ∷ b ∷ c ∷ []
 before k _ = []
 
+-- the cause that an error tells
+abbrev pub option_cause : NoOption → Option (List (Option DeKind))
+option_cause (Refused ks) = Some ks
+option_cause Memory = None
+
 -- the first value exactly where there is one, the refusals exactly where there is none, or want of memory
 abbrev pub IsChosen : {T : Type 0} → (T → Meaning) → Result T NoOption → Result Meaning (List DeKind) → Type 0
-IsChosen f (Ok x) r = in_four r ≡ Ok (f x)
-IsChosen f (Err (Refused ks)) r = in_four r ≡ Err ks
-IsChosen f (Err Memory) r = Unit {0}
+IsChosen f result r = Answered f option_cause result (in_four r)
 
 -- the log has gained those refusals, of which want of memory may leave some out at the end
 abbrev pub AreTried : {T : Type 0} → Result T NoOption → List Refusal → List Refusal → List Refusal → Type 0
-AreTried (Ok x) old gains new = new ≡ old ++ gains
-AreTried (Err (Refused ks)) old gains new = new ≡ old ++ gains
-AreTried (Err Memory) old gains new = IsCut old new gains
+AreTried = Logged option_cause
 
 -- no want of memory
 abbrev pub ChoosesFreely : {T : Type 0} → Result T NoOption → Type 0
-ChoosesFreely (Ok x) = Unit {0}
-ChoosesFreely (Err (Refused ks)) = Unit {0}
-ChoosesFreely (Err Memory) = ⊥
+ChoosesFreely = AnsweredFreely option_cause

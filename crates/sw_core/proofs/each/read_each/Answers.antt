@@ -1,7 +1,7 @@
 use Rattle.sw_tree.specs.View.{seen}
 use Rattle.sw_core.specs.Inner.Rows.{seen_logs}
 use Rattle.sw_core.specs.Rows.{reader, each_by}
-use Rattle.sw_core.proofs.Logs.{cut_at_start}
+use Rattle.sw_tree.specs.Laws.Logs.{cut_at_start}
 use Rattle.sw_core.proofs.Rows.{item_cut, item_behind}
 use Rattle.sw_core.proofs.each.read_each.Goals as goal
 

@@ -1,5 +1,5 @@
 use Rattle.std.proofs.Common.{◌≡◌, map}
-use Rattle.sw_elem.specs.Answers.{HasGained}
+use Rattle.sw_tree.specs.Logged.{HasGained}
 use Rattle.sw_core.specs.Inner.Rows.{seen_reads, seen_logs}
 use Rattle.sw_core.specs.Rows.{reader, each_by}
 use Rattle.sw_core.proofs.Rows.{prefixed}

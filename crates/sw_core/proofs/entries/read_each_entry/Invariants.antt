@@ -1,6 +1,6 @@
 use Rattle.std.proofs.Common.{◌≡◌}
 use Rattle.sw_tree.specs.Mode.{at_key, at_value}
-use Rattle.sw_elem.specs.Answers.{HasGained}
+use Rattle.sw_tree.specs.Logged.{HasGained}
 use Rattle.sw_core.specs.Inner.Rows.{seen_reads, seen_logs, seen_turns, all_both}
 use Rattle.sw_core.specs.Rows.{reader, turns_by}
 use Rattle.sw_core.proofs.Rows.{prefixed}

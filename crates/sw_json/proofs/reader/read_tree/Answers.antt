@@ -9,7 +9,7 @@ use Rattle.sw_json.specs.Lexeme.{token_of}
 use Rattle.sw_json.specs.Spelled.{spelled}
 use Rattle.sw_json.specs.declared.lexer.Lexeme.{Lexeme}
 use Rattle.sw_json.specs.Laws.Completion.{shorter, tree_spelled, err_spelled, refused_by}
-use Rattle.sw_json.proofs.Standing.{the_some}
+use Rattle.sw_tree.specs.Laws.Options.{some_is}
 use Rattle.sw_json.proofs.Stands as stands
 use Rattle.sw_json.proofs.Taking.{next_found, took, turn_taken, still_stands}
 use Rattle.sw_json.proofs.reader.read_tree.Goals as goal
@@ -137,7 +137,7 @@ returns-clause-found c =
     let g = stands.good c.args.bytes.now c.tokens.place (reverse c.tokens.levels.items) c.tokens.fault c.tokens.builder c.tokens.rest.now c.tokens.invariant
     (stands.nothing_left c.tokens.rest.now _ c.skip_blanks-ahead.ensures c.if-is_empty.ensures)
     (sym c.is_end.ensures ∙ c.if-not-is_end.false) c.in_default-fault.is in
-    rw c.in-Ok-shared.ensures (g.1 ∙ ap (λ (t : Tree). Ok t) (sym (the_some (c.finish.ensures.tree ∙ g.2))))
+    rw c.in-Ok-shared.ensures (g.1 ∙ ap (λ (t : Tree). Ok t) (sym (some_is (c.finish.ensures.tree ∙ g.2))))
 
 pub returns-clause-tree : goal.returns-clause-tree
 returns-clause-tree c = tree_spelled c.args.bytes.now c.in-Ok-shared.document.tree (returns-clause-found c)

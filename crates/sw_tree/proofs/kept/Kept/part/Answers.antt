@@ -12,22 +12,22 @@ run_at-run-requires c =
     let inside = stop_inside (sheet_store c.args.input.now c.args.sheet.now) c.args.sheet.now.cells.items c.args.at c.args.end Null c.requires.inside c.requires.formed c.requires.all in
     record { ordered = omega (arith, c.requires.all); inside = rw c.as_slice.ensures.value inside }
 
-pub copied_bytes-requires : goal.copied_bytes-requires
-copied_bytes-requires c =
+pub copied-requires : goal.copied-requires
+copied-requires c =
     let cells = c.args.sheet.now.cells.items in
     let is : c.run_at-run.result.now ≡ slice_range cells c.args.at c.args.end = c.run_at-run.ensures ∙ ap (λ (xs : List Cell). slice_range xs c.args.at c.args.end) c.as_slice.ensures.value in
     let k = cut_at (sheet_store c.args.input.now c.args.sheet.now) cells c.args.at c.args.end Null c.run_at-run.result.now c.reach_of-reach.result is c.reach_of-reach.ensures c.requires.inside c.requires.formed c.requires.all in
     record { ordered = k.part.input; inside = k.part.inside.input }
 
-pub copied_bytes-requires-2 : goal.copied_bytes-requires-2
-copied_bytes-requires-2 c =
+pub copied-requires-2 : goal.copied-requires-2
+copied-requires-2 c =
     let cells = c.args.sheet.now.cells.items in
     let is : c.run_at-run.result.now ≡ slice_range cells c.args.at c.args.end = c.run_at-run.ensures ∙ ap (λ (xs : List Cell). slice_range xs c.args.at c.args.end) c.as_slice.ensures.value in
     let k = cut_at (sheet_store c.args.input.now c.args.sheet.now) cells c.args.at c.args.end Null c.run_at-run.result.now c.reach_of-reach.result is c.reach_of-reach.ensures c.requires.inside c.requires.formed c.requires.all in
     record { ordered = k.part.side; inside = rw c.as_slice-2.ensures.value k.part.inside.side }
 
-pub copied_wides-requires : goal.copied_wides-requires
-copied_wides-requires c =
+pub copied-requires-3 : goal.copied-requires-3
+copied-requires-3 c =
     let cells = c.args.sheet.now.cells.items in
     let is : c.run_at-run.result.now ≡ slice_range cells c.args.at c.args.end = c.run_at-run.ensures ∙ ap (λ (xs : List Cell). slice_range xs c.args.at c.args.end) c.as_slice.ensures.value in
     let k = cut_at (sheet_store c.args.input.now c.args.sheet.now) cells c.args.at c.args.end Null c.run_at-run.result.now c.reach_of-reach.result is c.reach_of-reach.ensures c.requires.inside c.requires.formed c.requires.all in

@@ -1,7 +1,7 @@
 -- A log that grows by a part of the refusals at a time.
 use Rattle.std.proofs.Common.{List, [], ◌++◌, ◌≡◌, append_assoc, append-nil, refl, sym, ap, ◌∙◌}
 use Rattle.sw_tree.specs.declared.fail.Refusal.{Refusal}
-use Rattle.sw_elem.specs.Answers.{HasGained, IsCut}
+use Rattle.sw_tree.specs.Logged.{HasGained, IsCut}
 
 pub gained_none : (old gains : List Refusal) → HasGained old old gains gains
 gained_none old gains = record { part = []; log = sym (append-nil old); split = refl }
