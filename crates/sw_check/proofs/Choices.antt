@@ -5,9 +5,9 @@ use Rattle.sw_tree.specs.declared.mode.Kind.{Kind}
 use Rattle.sw_tree.specs.Mode.{marked}
 use Rattle.sw_check.specs.Form.{Form, forms, choice, levels, most_levels, leaf, separated, empty_none, conv}
 use Rattle.sw_check.specs.Kinds.{kinds_read}
-use Rattle.sw_check.specs.Options.{mode_of}
+use Rattle.sw_check.specs.Inner.Options.{mode_of}
 use Rattle.sw_check.specs.Checked.{one, checked}
-use Rattle.sw_check.specs.Parts.{others, first_read, others_read}
+use Rattle.sw_check.specs.Inner.Parts.{others, first_read, others_read}
 
 pub part_levels : (ps : List Form) (k : ℕ) (d p : Form) → k < length ps → p ≡ get_or ps k d → levels p ≤ most_levels (forms ps)
 part_levels [] k d p h e = absurd (omega arith)

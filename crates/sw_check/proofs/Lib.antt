@@ -1,2 +1,4 @@
 pub mod Choices
 pub mod Modes
+pub mod Preorder
+pub mod TextClasses

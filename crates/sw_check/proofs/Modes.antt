@@ -3,7 +3,7 @@ use Rattle.std.proofs.Common.{◌≡◌, ◌<◌, ◌≤◌, List, [], ◌∷◌
 use Rattle.sw_tree.specs.declared.mode.Mode.{Mode}
 use Rattle.sw_tree.specs.Mode.{marked}
 use Rattle.sw_check.specs.Form.{Form}
-use Rattle.sw_check.specs.Options.{mode_of}
+use Rattle.sw_check.specs.Inner.Options.{mode_of}
 
 pub several : (ps : List Form) (m : Mode) → 1 < length ps → mode_of ps m ≡ marked m
 several [] m h = absurd (omega arith)

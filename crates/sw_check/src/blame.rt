@@ -1,5 +1,7 @@
 ghost use Rattle.std.specs.Prelude.{◌≡◌, ◌++◌, IfOk, OnOk, string_bytes};
-ghost use Rattle.sw_check.specs.PathText.{step_text, path_text};
+ghost use Rattle.sw_tree.specs.PathText.{step_text};
+ghost use Rattle.sw_tree.specs.declared.path.Step.TheVariants.{Item};
+ghost use Rattle.sw_check.specs.PathText.{path_text};
 
 use crate::rule::Rule;
 use itoa::Buffer;
@@ -45,7 +47,7 @@ impl Path {
 
 /// Appends the text of a step.
 fn push_step(text: &mut String, step: u16) -> Result<(), AllocError>
-    ensures { OnOk result (string_bytes text.new ≡ string_bytes text.old ++ step_text step) }
+    ensures { OnOk result (string_bytes text.new ≡ string_bytes text.old ++ step_text (Item step)) }
 {
     let mut digits = Buffer::new();
     text.push_str("/")?;

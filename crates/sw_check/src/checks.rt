@@ -5,12 +5,12 @@ ghost use Rattle.sw_check.specs.declared.blame.Blame.{Blame};
 ghost use Rattle.sw_check.specs.Form.{forms};
 ghost use Rattle.sw_check.specs.Kinds.{kinds_written, kinds_read, any_reads};
 ghost use Rattle.sw_check.specs.Grade.{grade, worst_of};
-ghost use Rattle.sw_check.specs.Blame.{blame, first_blame, under, IsSound};
-ghost use Rattle.sw_check.specs.Checked.{checked, blamed};
-ghost use Rattle.sw_check.specs.Parts.{others, first_written, first_read, others_read, first_grade, second_grade};
+ghost use Rattle.sw_check.specs.Blame.{blame, row_blame, first_blame, under, IsSound};
+ghost use Rattle.sw_check.specs.Checked.{checked};
+ghost use Rattle.sw_check.specs.Inner.Parts.{others, first_written, first_read, others_read, first_grade, second_grade};
 ghost use Rattle.sw_check.specs.Answers.{IsBlamed};
 ghost use Rattle.sw_check.specs.Preorder.{NothingFails, BlamesFirst};
-ghost use Rattle.sw_check.specs.Found.{FindsFirst};
+ghost use Rattle.sw_check.specs.Inner.Found.{FindsFirst};
 
 use crate::blame::{Blame, CheckFail, Path};
 use crate::children::{Children, children_of};
@@ -29,7 +29,7 @@ use sw_tree::{Kinds, Mode};
 /// Each subexpression is looked at once, so the time grows with the size of the expression alone. The check
 /// takes stack for each level of the expression, and memory only for the paths to what fails; `Memory` comes
 /// only where there is a blame and its path has a step.
-#[tactic(auto, using(crate::specs::PreorderLaws::preorder))]
+#[tactic(auto, using(crate::proofs::Preorder::preorder))]
 pub fn check(alloc: Global, expr: &Expr, mode: Mode) -> Result<Grade, CheckFail>
     ensures sound { IfOk result (λ g. IsSound expr.now mode × (g ≡ grade expr.now mode)) }
     ensures blamed { IfErr result (λ fail. IsBlamed fail (blame expr.now mode)) }
@@ -92,7 +92,7 @@ fn parts_of(alloc: Global, expr: &Expr, mode: Mode, found: &mut Found) -> Parts
     ensures others { (k : Kind) → has result.others k ≡ others_read (checked expr.now mode) (others expr.now) k }
     ensures first { result.grade ≡ first_grade (checked expr.now mode) }
     ensures second { result.second ≡ second_grade (checked expr.now mode) }
-    ensures found { FindsFirst found.old found.new (blamed (checked expr.now mode)) }
+    ensures found { FindsFirst found.old found.new (first_blame blame (checked expr.now mode)) }
 {
     match children_of(expr, mode) {
         Children::None => Parts::row(Grade::Exact),
@@ -132,7 +132,7 @@ fn row(alloc: Global, parts: &[Expr], mode: Mode, found: &mut Found) -> Row
     requires { length parts.now ≤ 65535 }
     ensures read { (k : Kind) → has result.read k ≡ any_reads (forms parts.now) mode k }
     ensures grade { result.grade ≡ worst_of (forms parts.now) mode }
-    ensures found { FindsFirst found.old found.new (first_blame (forms parts.now) 0 mode) }
+    ensures found { FindsFirst found.old found.new (row_blame blame (forms parts.now) 0 mode) }
 {
     let mut row = Row {
         read: Kinds::none(),

@@ -1,7 +1,7 @@
 ghost use Rattle.std.specs.Prelude.{◌≡◌};
 ghost use Rattle.sw_check.specs.Checked.{checked};
-ghost use Rattle.sw_check.specs.Children.{shown, behind, IsFew};
-ghost use Rattle.sw_check.specs.Parts.{others};
+ghost use Rattle.sw_check.specs.Inner.Children.{shown, behind, IsFew};
+ghost use Rattle.sw_check.specs.Inner.Parts.{others};
 
 use crate::expr::{Expr, Shape};
 use crate::options::mode_of;

@@ -48,13 +48,13 @@ pub(crate) enum Shape {
 impl Model for Expr {
     ghost use Rattle.std.specs.Prelude.{◌≤◌};
     ghost use Rattle.sw_check.specs.Form.{Form, levels};
-    ghost use Rattle.sw_check.specs.FormCode.{coded_form};
+    ghost use Rattle.sw_check.specs.Laws.FormCode.{coded_form};
 
     ghost Value = { Form };
 
     ghost coded = { coded_form };
 
-    ghost use Rattle.sw_check.specs.ShapeForm.{shape_form, fewest, count};
+    ghost use Rattle.sw_check.specs.Inner.Shape.{shape_form, fewest, count};
 
     ghost view = { λ a. shape_form a.shape };
 
@@ -62,7 +62,7 @@ impl Model for Expr {
 
     ghost size = { levels };
 
-    ghost use Rattle.sw_check.specs.ShapeFalls.{deep_le-levels};
+    ghost use Rattle.sw_check.specs.Laws.Shape.{deep_le-levels};
 
     ghost size_decreases = { λ a h. deep_le-levels a.shape };
 }

@@ -13,7 +13,7 @@ pub struct ExprList {
 impl Model for ExprList {
     ghost use Rattle.std.specs.Prelude.{List, ◌≤◌, length};
     ghost use Rattle.sw_check.specs.Form.{Form};
-    ghost use Rattle.sw_check.specs.FormCode.{coded_form};
+    ghost use Rattle.sw_check.specs.Laws.FormCode.{coded_form};
     ghost use Rattle.std.specs.Coded.{coded_list};
 
     ghost Value = { List Form };

@@ -1,7 +1,7 @@
 ghost use Rattle.std.specs.Prelude.{◌≡◌, Option};
 ghost use Rattle.sw_check.specs.declared.blame.Blame.{Blame};
 ghost use Rattle.sw_check.specs.Blame.{here, under};
-ghost use Rattle.sw_check.specs.Found.{is_nothing, IsSoFar, FindsFirst};
+ghost use Rattle.sw_check.specs.Inner.Found.{is_nothing, IsSoFar, FindsFirst};
 
 use crate::rule::Rule;
 use std::alloc::Global;

@@ -1,7 +1,7 @@
 ghost use Rattle.std.specs.Prelude.{◌≡◌};
 ghost use Rattle.sw_check.specs.Grade.{grade};
 ghost use Rattle.sw_check.specs.Checked.{checked};
-ghost use Rattle.sw_check.specs.Parts.{first_grade, second_grade};
+ghost use Rattle.sw_check.specs.Inner.Parts.{first_grade, second_grade};
 
 use crate::expr::{Expr, Shape};
 use crate::grade::Grade;

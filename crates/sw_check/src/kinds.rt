@@ -3,7 +3,7 @@ ghost use Rattle.sw_tree.specs.Kinds.{has, is_kind};
 ghost use Rattle.sw_tree.specs.declared.mode.Kind.{Kind};
 ghost use Rattle.sw_check.specs.Kinds.{kinds_written, kinds_read};
 ghost use Rattle.sw_check.specs.Checked.{checked};
-ghost use Rattle.sw_check.specs.Parts.{others, first_written, first_read, others_read};
+ghost use Rattle.sw_check.specs.Inner.Parts.{others, first_written, first_read, others_read};
 
 use crate::expr::{Expr, Shape};
 use crate::parts::Parts;

@@ -1,5 +1,5 @@
 ghost use Rattle.std.specs.Prelude.{◌≡◌};
-ghost use Rattle.sw_check.specs.Options.{mode_of};
+ghost use Rattle.sw_check.specs.Inner.Options.{mode_of};
 
 use crate::expr::Expr;
 use sw_tree::Mode;

@@ -4,7 +4,7 @@ ghost use Rattle.sw_tree.specs.declared.mode.Kind.{Kind};
 ghost use Rattle.sw_check.specs.Kinds.{kinds_written};
 ghost use Rattle.sw_check.specs.Rules.{holds, fault};
 ghost use Rattle.sw_check.specs.Checked.{checked};
-ghost use Rattle.sw_check.specs.Parts.{first_written, first_read, first_grade, second_grade};
+ghost use Rattle.sw_check.specs.Inner.Parts.{first_written, first_read, first_grade, second_grade};
 
 use crate::expr::{Expr, Shape};
 use crate::parts::Parts;

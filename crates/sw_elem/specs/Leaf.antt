@@ -15,11 +15,10 @@ use Rattle.sw_tree.specs.declared.mode.Place.TheVariants as place
 use Rattle.sw_tree.specs.declared.mode.Kind.{Kind}
 use Rattle.sw_check.specs.Form.{leaf}
 use Rattle.sw_check.specs.Facts.{claims_at, read_at}
-use Rattle.sw_check.specs.Rules.{holds}
-use Rattle.sw_check.specs.Blame.{here, IsSound}
+use Rattle.sw_check.specs.Laws.Sound.{sound-rule}
 use Rattle.sw_check.specs.declared.facts.Claims.{Claims}
 use Rattle.sw_check.specs.declared.facts.Facts.{Facts}
-use Rattle.sw_check.specs.declared.rule.Rule.TheVariants.{S1, S2}
+use Rattle.sw_check.specs.declared.rule.Rule.TheVariants.{S1}
 use Rattle.sw_elem.specs.Equations.{Writes, Reads, Spots, Skips}
 use Rattle.sw_elem.specs.Facts.{everywhere}
 use Rattle.sw_elem.specs.Laws.{Norm, HasSpotKinds}
@@ -48,15 +47,6 @@ same_kinds ks c Compact p b = refl
 pub everywhere_read : (ks : Kinds) (c : Claims) (m : Mode) (k : Kind) → has ks k ≡ true → has (read_at (everywhere ks c) m) k ≡ true
 everywhere_read ks c m k h = ap (λ (s : Kinds). has s k) (same_kinds ks c m.wire m.place m.buffered) ∙ h
 
-second_holds : (a b : Bool) → here (cond (not a) (Some S2) (cond (not b) (Some S1) None)) None ≡ None → b ≡ true
-second_holds true true h = refl
-second_holds true false h = absurd (cc)
-second_holds false b h = absurd (cc)
-
--- where a leaf is sound, it claims the mode
-pub claimed : (f : Facts) (m : Mode) → IsSound (leaf f) m → claims_at f.claims m ≡ true
-claimed f m h = second_holds (holds S2 (leaf f) m) (claims_at f.claims m) h
-
 module _ (P : Meaning → Type 0) (writes : Writes) (reads : Reads) (spot : Spots) (f : Facts) (node : Meaning → Tree) (is : IsLeaf P writes reads spot f node) where
   same : (m : Mode) (v : Meaning) (t : Tree) → writes m v ≡ Ok t → node v ≡ t
   same m v t p = let e = is.writing m v in cc
@@ -81,9 +71,9 @@ module _ (P : Meaning → Type 0) (writes : Writes) (reads : Reads) (spot : Spot
   -- what keeps the laws of a leaf and passes nothing over is lawful under the expression that is that leaf
   pub leaf_lawful : Lawful P writes reads spot skips (leaf f) norm assumes
   leaf_lawful = record {
-    images = λ m s. law.images m (claimed f m s);
-    back = λ a m s. law.back a m (claimed f m s);
-    never_key = λ m s. law.never_key m (claimed f m s);
+    images = λ m s. law.images m (sound-rule (leaf f) m s S1);
+    back = λ a m s. law.back a m (sound-rule (leaf f) m s S1);
+    never_key = λ m s. law.never_key m (sound-rule (leaf f) m s S1);
     written_kinds = law.written_kinds;
     read_kinds = law.read_kinds;
     unmarked = law.unmarked;

@@ -22,7 +22,7 @@ use Rattle.sw_tree.specs.declared.fail.SerError.TheVariants as ser
 use Rattle.sw_check.specs.Form.{Form, map}
 use Rattle.sw_check.specs.Grade.{grade, is_exact}
 use Rattle.sw_check.specs.Rules.{is_json_key}
-use Rattle.sw_check.specs.SoundForms.{sound-map, exact_is, exact-worst}
+use Rattle.sw_check.specs.Laws.SoundForms.{sound-map, exact_is, exact-worst}
 use Rattle.sw_elem.specs.Equations.{Writes, Reads, Spots, Skips, LawfulReading}
 use Rattle.sw_elem.specs.Laws.{Norm, HasImages, ReadsBack, NeverKey, IsUnmarked, IsExact, WritesNodes, NormsWithin}
 use Rattle.sw_elem.specs.Lawful.{Lawful}

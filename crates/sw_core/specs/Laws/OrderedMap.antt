@@ -17,7 +17,7 @@ use Rattle.sw_check.specs.Blame.{IsSound}
 use Rattle.sw_check.specs.Form.{Form, map, key_map}
 use Rattle.sw_check.specs.Grade.{grade}
 use Rattle.sw_check.specs.Kinds.{kinds_written, kinds_read}
-use Rattle.sw_check.specs.SoundForms.{sound-key_map, key_map-map, exact_is}
+use Rattle.sw_check.specs.Laws.SoundForms.{sound-key_map, key_map-map, exact_is}
 use Rattle.sw_check.specs.declared.grade.Grade.TheVariants.{Exact}
 use Rattle.sw_elem.specs.Equations.{Writes, Reads, Spots, Skips, LawfulReading}
 use Rattle.sw_elem.specs.Laws.{Norm, IsExact, NormsWithin}

@@ -17,13 +17,9 @@ use Rattle.sw_tree.specs.declared.mode.Kind.TheVariants as kind
 use Rattle.sw_tree.specs.declared.mode.Mode.{Mode}
 use Rattle.sw_tree.specs.declared.mode.Place.TheVariants.{Value}
 use Rattle.sw_tree.specs.declared.fail.SerError.TheVariants as ser
-use Rattle.sw_check.specs.Blame.{IsSound}
 use Rattle.sw_check.specs.Form.{Form, vec}
-use Rattle.sw_check.specs.Rules.{is_json_key, holds}
-use Rattle.sw_check.specs.Sound.{sound-by}
-use Rattle.sw_check.specs.SoundForms.{sound-vec}
-use Rattle.sw_check.specs.declared.rule.Rule.{Rule}
-use Rattle.sw_check.specs.declared.rule.Rule.TheVariants.{S1, S2, S3, S4, S5, S6, S7, S8}
+use Rattle.sw_check.specs.Rules.{is_json_key}
+use Rattle.sw_check.specs.Laws.SoundForms.{sound-vec}
 use Rattle.sw_elem.specs.Equations.{Writes, Reads, Spots, Skips, LawfulReading}
 use Rattle.sw_elem.specs.Laws.{Norm, HasImages, ReadsBack, NeverKey, IsUnmarked, IsExact, WritesNodes, NormsWithin}
 use Rattle.sw_elem.specs.Lawful.{Lawful}
@@ -146,18 +142,3 @@ module _ {P : Meaning → Type 0} {w : Writes} {r : Reads} {s : Spots} {k : Skip
         nodes = nodes P w part.nodes;
         norms = norms P n part.norms;
       }
-
--- a list is sound away from keys of JSON, where its parts are
-module _ (p : Form) (m : Mode) (away : is_json_key m.wire m.place ≡ false) where
-  rules : (r : Rule) → holds r (vec p) m ≡ true
-  rules S1 = refl
-  rules S2 = rw away refl
-  rules S3 = refl
-  rules S4 = refl
-  rules S5 = refl
-  rules S6 = refl
-  rules S7 = refl
-  rules S8 = refl
-
-  pub vec_sound : IsSound p (at_value m) → IsSound (vec p) m
-  vec_sound part = sound-by (vec p) m rules part

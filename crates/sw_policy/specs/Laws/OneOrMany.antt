@@ -21,13 +21,13 @@ use Rattle.sw_tree.specs.declared.fail.DeError.{DeError}
 use Rattle.sw_check.specs.Form.{Form, vec, one_or_many}
 use Rattle.sw_check.specs.Kinds.{kinds_written, kinds_read}
 use Rattle.sw_check.specs.Blame.{IsSound}
-use Rattle.sw_check.specs.SoundForms.{sound-one_or_many}
+use Rattle.sw_check.specs.Laws.SoundForms.{sound-one_or_many, one_or_many-vec}
 use Rattle.sw_elem.specs.Equations.{Writes, Reads, Spots, Skips, LawfulReading, own_spot}
 use Rattle.sw_elem.specs.Laws.{Norm, HasImages, ReadsBack, NeverKey, IsUnmarked, WritesNodes}
 use Rattle.sw_elem.specs.Lawful.{Lawful}
 use Rattle.sw_core.specs.Vec.{list_writes, list_reads, list_spot, list_skips, list_norm}
 use Rattle.sw_core.specs.Laws.Images.{image-elsewhere}
-use Rattle.sw_core.specs.Laws.Vec.{list_lawful, list_keeps, vec_sound}
+use Rattle.sw_core.specs.Laws.Vec.{list_lawful, list_keeps}
 use Rattle.sw_policy.specs.Options.{or_later}
 use Rattle.sw_policy.specs.PickFirst.{or_no_variant}
 use Rattle.sw_policy.specs.OneOrMany.{one_or_many_writes, alone_reads, alone_spot, both_forms, one_or_many_reads, one_or_many_skips, one_or_many_norm}
@@ -113,16 +113,12 @@ module _ {P : Meaning → Type 0} {w : Writes} {r : Reads} {s : Spots} {k : Skip
   many : Lawful (IsListOf P) (list_writes w) (list_reads r s k) (list_spot r s k) (list_skips r s k) (vec e) (list_norm n) a
   many = list_keeps part
 
-  -- where the choice is sound, a list of the parts, buffered, is
-  list_sound : (m : Mode) → IsSound (one_or_many e) m → IsSound (vec e) (marked m)
-  list_sound m c = let d = sound-one_or_many e m c in vec_sound e (marked m) d.0 d.2
-
   imaged : (m : Mode) → IsSound (one_or_many e) m → HasImages (IsListOf P) (one_or_many_writes b w) m
   imaged m c v t h p =
       let d = sound-one_or_many e m c in
       by_form w b m (λ x. IsListOf P x → (i : Tree) × (image m.wire m.place t ≡ Some i)) (Ok t)
       (λ x q j. let i = part.images (marked (at_value m)) d.2 x t j.0 (part.unmarked (at_value m) x ∙ q) in (i.0, image-elsewhere m.wire m.place t d.0 ∙ i.1))
-      (λ x q j. many.images (marked m) (list_sound m c) x t j (many.unmarked m x ∙ q)) v p h
+      (λ x q j. many.images (marked m) (one_or_many-vec e m c) x t j (many.unmarked m x ∙ q)) v p h
 
   read_back : a → (m : Mode) → IsSound (one_or_many e) m → ReadsBack (IsListOf P) (one_or_many_writes b w) (one_or_many_reads r s k) (one_or_many_norm n) m
   read_back own m c v t i h p j =
@@ -137,13 +133,13 @@ module _ {P : Meaning → Type 0} {w : Writes} {r : Reads} {s : Spots} {k : Skip
       let is_list = list_stays m.wire t i (many.written_kinds (marked m) x t y written) same in
       let unread : (u : Meaning) → first ≡ Ok u → ⊥ =
       λ u f. not_both (kinds_read e (marked (at_value m)) kind.List) d.1 (ap (kinds_read e (marked (at_value m))) (sym is_list) ∙ part.read_kinds (marked (at_value m)) i u f) in
-      list_found first second (one_or_many_norm n m x) unread (many.back own (marked m) (list_sound m c) x t i y written j)) v p h
+      list_found first second (one_or_many_norm n m x) unread (many.back own (marked m) (one_or_many-vec e m c) x t i y written j)) v p h
 
   never_key : (m : Mode) → IsSound (one_or_many e) m → NeverKey (IsListOf P) (one_or_many_writes b w) m
   never_key m c v h p =
       by_form w b m (λ x. IsListOf P x → ⊥) (Err ser.Key)
       (λ x q y. part.never_key (marked (at_value m)) ((sound-one_or_many e m c).2) x y.0 (part.unmarked (at_value m) x ∙ q))
-      (λ x q y. many.never_key (marked m) (list_sound m c) x y (many.unmarked m x ∙ q)) v p h
+      (λ x q y. many.never_key (marked m) (one_or_many-vec e m c) x y (many.unmarked m x ∙ q)) v p h
 
   written_kinds : (m : Mode) (v : Meaning) (t : Tree) → IsListOf P v → one_or_many_writes b w m v ≡ Ok t → kinds_written (one_or_many e) m (kind_of t) ≡ true
   written_kinds m v t h p =

@@ -13,7 +13,7 @@ use Rattle.sw_tree.specs.declared.fail.DeError.TheVariants.{InvalidType}
 use Rattle.sw_tree.specs.declared.fail.DeKind.{DeKind}
 use Rattle.sw_check.specs.Form.{Form, pick_first, no_forms, forms}
 use Rattle.sw_check.specs.Kinds.{kinds_read, any_reads}
-use Rattle.sw_check.specs.Sound.{sound-checked}
+use Rattle.sw_check.specs.Laws.Sound.{sound-checked}
 use Rattle.sw_elem.specs.Equations.{Writes, Reads, Spots, Skips, LawfulReading, own_spot, own_spot-inside}
 use Rattle.sw_elem.specs.Laws.{Norm, HasSpotKinds, HasNoteKinds}
 use Rattle.sw_elem.specs.Lawful.{Lawful}

@@ -1,8 +1,9 @@
 use Rattle.std.proofs.Common.{arith, ap, sym, subst, ◌∙◌, ◌≤◌, length}
 use Rattle.sw_check.specs.Form.{most_levels}
-use Rattle.sw_check.specs.Blame.{here}
-use Rattle.sw_check.specs.Checked.{checked, blamed, blame-checked}
-use Rattle.sw_check.specs.Found.{FindsFirst}
+use Rattle.sw_check.specs.Blame.{here, first_blame, blame}
+use Rattle.sw_check.specs.Checked.{checked}
+use Rattle.sw_check.specs.Inner.Found.{FindsFirst}
+use Rattle.sw_check.specs.Laws.Blame.{blame-checked}
 use Rattle.sw_check.proofs.Choices.{part_levels, others_levels}
 use Rattle.sw_check.proofs.checks.+inspect.Goals as goal
 
@@ -17,6 +18,6 @@ parts_of-read_by-requires t c =
 
 pub inspect-returns-clause-found : goal.inspect-returns-clause-found
 inspect-returns-clause-found t c =
-    let below = blamed (checked c.args.expr.now c.args.mode) in
+    let below = first_blame blame (checked c.args.expr.now c.args.mode) in
     let whole = ap (λ r. here r below) c.fault.ensures ∙ sym (blame-checked c.args.expr.now c.args.mode) in
     subst (λ b. FindsFirst c.args.found.now c.own.new.self b) whole (c.own.ensures c.args.found.now below c.is_nothing-nothing_before.ensures c.parts_of-parts.ensures.found)

@@ -4,15 +4,15 @@ use Rattle.sw_tree.specs.declared.mode.Kind.{Kind}
 use Rattle.sw_check.specs.Form.{forms, levels, most_levels}
 use Rattle.sw_check.specs.Kinds.{any_reads}
 use Rattle.sw_check.specs.Grade.{worst, worst_of}
-use Rattle.sw_check.specs.Blame.{first_blame}
-use Rattle.sw_check.specs.Found.{FindsSoFar}
+use Rattle.sw_check.specs.Blame.{row_blame, blame}
+use Rattle.sw_check.specs.Inner.Found.{FindsSoFar}
 use Rattle.sw_check.proofs.checks.+inspect.Given as goal
 
 abbrev pub invariant-row-loop-number : goal.invariant-row-loop-number
 invariant-row-loop-number l =
     ((k : Kind) → (has l.row.read k || any_reads (forms (drop l.number l.parts)) l.mode k) ≡ any_reads (forms l.parts) l.mode k)
     × (worst l.row.grade (worst_of (forms (drop l.number l.parts)) l.mode) ≡ worst_of (forms l.parts) l.mode)
-    × FindsSoFar l.initial.found l.found (first_blame (forms (drop l.number l.parts)) l.number l.mode) (first_blame (forms l.parts) 0 l.mode)
+    × FindsSoFar l.initial.found l.found (row_blame blame (forms (drop l.number l.parts)) l.number l.mode) (row_blame blame (forms l.parts) 0 l.mode)
 
 abbrev pub decreases-inspect : goal.decreases-inspect
 decreases-inspect l = 5 * levels l.expr.now + 1

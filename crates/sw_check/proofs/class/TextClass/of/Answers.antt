@@ -1,7 +1,7 @@
 use Rattle.std.proofs.Common.{◌∙◌, ap}
 use Rattle.sw_check.specs.TextClass.{class_of, admits}
 use Rattle.sw_check.specs.declared.class.TextClass.{TextClass}
-use Rattle.sw_check.specs.TextClassLaws.{admits-class_of, other-class_of, never_empty-class_of}
+use Rattle.sw_check.proofs.TextClasses.{admits-class_of, other-class_of, never_empty-class_of}
 use Rattle.sw_check.proofs.class.TextClass.of.Goals as goal
 
 pub returns-clause-low : goal.returns-clause-low

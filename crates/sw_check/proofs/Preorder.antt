@@ -7,9 +7,10 @@ use Rattle.sw_check.specs.declared.rule.Rule.{Rule}
 use Rattle.sw_check.specs.declared.blame.Blame.{Blame}
 use Rattle.sw_check.specs.Form.{Form, Forms, no_forms, form}
 use Rattle.sw_check.specs.Rules.{fault}
-use Rattle.sw_check.specs.Blame.{blame, first_blame, here, under, or_else, IsSound}
-use Rattle.sw_check.specs.Checked.{Checked, none, one, two, each, checked, blamed, blame-checked}
-use Rattle.sw_check.specs.Sound.{AreSound, AllSound, sound-checked}
+use Rattle.sw_check.specs.Blame.{blame, row_blame, first_blame, here, under, or_else, IsSound}
+use Rattle.sw_check.specs.Checked.{Checked, none, one, two, each, checked}
+use Rattle.sw_check.specs.Laws.Blame.{blame-checked}
+use Rattle.sw_check.specs.Laws.Sound.{AreSound, AllSound, sound-checked, sound-faultless}
 use Rattle.sw_check.specs.Preorder.{child_at, followed, NothingFails, Before, IsFirst, BlamesFirst}
 use Rattle.sw_check.specs.Answers.{IsBlamed}
 use Rattle.sw_check.specs.Grade.{grade}
@@ -38,20 +39,13 @@ child_sound (two q m r n) (suc zero) x s p = let e : (r, n) ≡ x = cc in subst 
 child_sound (two q m r n) (suc (suc k)) x s p = absurd (cc)
 child_sound (each ps m) k x s p = nth_sound ps m k x s p
 
-here-none : (r : Option Rule) (o : Option Blame) → here r o ≡ None → r ≡ None
-here-none (Some r) o p = absurd (cc)
-here-none None o p = refl
-
-sound-fault : (e : Form) (m : Mode) → IsSound e m → fault e m ≡ None
-sound-fault e m s = here-none (fault e m) (blamed (checked e m)) (sym (blame-checked e m) ∙ s)
-
 stepped : (f : Form × Mode → Option (Form × Mode)) (o : Option (Form × Mode)) (x : Form × Mode) → option_and_then f o ≡ Some x → (y : Form × Mode) × (o ≡ Some y) × (f y ≡ Some x)
 stepped f (Some y) x p = (y, refl, p)
 stepped f None x p = absurd (cc)
 
 -- where nothing is blamed nothing fails
 pub sound-nothing_fails : (e : Form) (m : Mode) → IsSound e m → NothingFails e m
-sound-nothing_fails e m s [] x p = let q : (e, m) ≡ x = cc in subst (λ (y : Form × Mode). fault y.0 y.1 ≡ None) q (sound-fault e m s)
+sound-nothing_fails e m s [] x p = let q : (e, m) ≡ x = cc in subst (λ (y : Form × Mode). fault y.0 y.1 ≡ None) q (sound-faultless e m s)
 sound-nothing_fails e m s (k ∷ ks) x p =
     let t = stepped (λ c. followed ks c.0 c.1) (child_at (checked e m) k) x p in
     sound-nothing_fails t.0.0 t.0.1 (child_sound (checked e m) k t.0 (sound-checked e m s) t.1) ks x t.2
@@ -92,10 +86,10 @@ later : (q : Form) (ps : Forms) (m : Mode) (k : ℕ) → IsSound q m → ((j : �
 later q ps m k s h zero y l p = let e : (q, m) ≡ y = cc in subst (λ (z : Form × Mode). IsSound z.0 z.1) e s
 later q ps m k s h (suc j) y l p = h j y (omega arith) p
 
-found_from : (ps : Forms) (i : ℕ) (m : Mode) (b : Blame) → first_blame ps i m ≡ Some b → FoundFrom ps i m b
+found_from : (ps : Forms) (i : ℕ) (m : Mode) (b : Blame) → row_blame blame ps i m ≡ Some b → FoundFrom ps i m b
 found_from no_forms i m b p = absurd (cc)
 found_from (form q ps) i m b p =
-    elim (either_some (under i (blame q m)) (first_blame ps (suc i) m) b p) [
+    elim (either_some (under i (blame q m)) (row_blame blame ps (suc i) m) b p) [
       | inl h ↦
           let u = under_some i (blame q m) b h in
           let n : i ≡ i + 0 = omega arith in
@@ -126,7 +120,7 @@ first_sound : (q : Form) (m : Mode) (r : Form) (n : Mode) → IsSound q m → (j
 first_sound q m r n s zero y l p = let e : (q, m) ≡ y = cc in subst (λ (z : Form × Mode). IsSound z.0 z.1) e s
 first_sound q m r n s (suc j) y l p = absurd (omega arith)
 
-found : (c : Checked) (b : Blame) → blamed c ≡ Some b → Found c b
+found : (c : Checked) (b : Blame) → first_blame blame c ≡ Some b → Found c b
 found none b p = absurd (cc)
 found (one n q m) b p =
     let u = under_some n (blame q m) b p in
@@ -182,8 +176,8 @@ here_some (Some r) o b p = let e : a_blame [] r ≡ b = cc in inl (ap (λ (d : B
 here_some None o b p = inr (refl, p)
 
 -- a blame is the expression's own failure, or it is found among the children
-own_or_below : (e : Form) (m : Mode) (b : Blame) → blame e m ≡ Some b → ((fault e m ≡ Some b.rule) × (b.path ≡ [])) ⊎ ((fault e m ≡ None) × (blamed (checked e m) ≡ Some b))
-own_or_below e m b p = here_some (fault e m) (blamed (checked e m)) b (sym (blame-checked e m) ∙ p)
+own_or_below : (e : Form) (m : Mode) (b : Blame) → blame e m ≡ Some b → ((fault e m ≡ Some b.rule) × (b.path ≡ [])) ⊎ ((fault e m ≡ None) × (first_blame blame (checked e m) ≡ Some b))
+own_or_below e m b p = here_some (fault e m) (first_blame blame (checked e m)) b (sym (blame-checked e m) ∙ p)
 
 fails_at : (ks : List ℕ) (r : Rule) (e : Form) (m : Mode) → blame e m ≡ Some (a_blame ks r) → (x : Form × Mode) × (followed ks e m ≡ Some x) × (fault x.0 x.1 ≡ Some r)
 fails_at [] r e m h =

@@ -3,7 +3,7 @@ use Rattle.std.specs.Prelude.{◌+◌, ◌≤◌, max, List, [], ◌∷◌}
 use Rattle.std.proofs.Common.{arith}
 use denote.Param.Weighed.{most}
 use Rattle.sw_check.specs.Form.{Form, forms, choice, levels, most_levels}
-use Rattle.sw_check.specs.ShapeForm.{shape_form}
+use Rattle.sw_check.specs.Inner.Shape.{shape_form}
 use Rattle.sw_check.specs.declared.expr.Shape.{Shape}
 use Rattle.sw_check.specs.declared.expr.Shape.TheVariants as shape
 use Rattle.sw_check.specs.declared.expr.Expr.TheDeep.{deep-Shape}

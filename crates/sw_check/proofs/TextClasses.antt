@@ -1,12 +1,12 @@
--- The class of a text's bytes has exactly these; classes that share no byte have none in common.
-use Rattle.std.specs.Prelude.{◌≡◌, ℕ, ◌^◌, ◌<◌, ◌≤◌, nat_lt, nat_le, Bool, true, false, not, ◌||◌, ◌&&◌, ◌==◌, List, [], ◌∷◌, length, fold, bit_and, bit_or, cond}
+-- The class of a text's bytes admits exactly the bytes of the text.
+use Rattle.std.specs.Prelude.{◌≡◌, ℕ, ◌^◌, ◌<◌, nat_lt, nat_le, Bool, true, false, ◌||◌, ◌==◌, List, [], ◌∷◌, length, fold, bit_or, cond}
 use Rattle.std.proofs.Common.{refl, ap, sym, subst, ◌∙◌, arith, inl, inr}
 use Rattle.std.specs.Int.{bit_at}
-use Rattle.std.specs.List.{list_any, list_all}
-use Rattle.std.proofs.lemmas.Bool.{cases_eq, cases_lt, eq-eqb, ne_eqb, eqb-true, lt-ltb, le-ltb, ltb-true, le-leb, lt-leb, or_cases}
-use Rattle.std.proofs.lemmas.Nat.Bits.{bit_at_or, bit_at_and, bit_at-pow_same, bit_at-pow_other, bit_at-zero, bit_at-lt}
+use Rattle.std.specs.List.{list_any}
+use Rattle.std.proofs.lemmas.Bool.{cases_eq, cases_lt, eq-eqb, ne_eqb, lt-ltb, le-ltb, le-leb, lt-leb}
+use Rattle.std.proofs.lemmas.Nat.Bits.{bit_at_or, bit_at-pow_same, bit_at-pow_other, bit_at-zero, bit_at-lt}
 use Rattle.sw_check.specs.declared.class.TextClass.{TextClass}
-use Rattle.sw_check.specs.TextClass.{admits, IsOfClass, with_byte, class_of, shares_byte}
+use Rattle.sw_check.specs.TextClass.{admits, with_byte, class_of}
 
 or-true : (b : Bool) → (b || true) ≡ true
 or-true true = refl
@@ -87,63 +87,3 @@ other-class_of text = others (start text) text
 -- and it is never empty exactly where the text isn't
 pub never_empty-class_of : (text : List ℕ) → (class_of text).never_empty ≡ nat_lt 0 (length text)
 never_empty-class_of text = fills (start text) text
-
-any_other : (text : List ℕ) (b : ℕ) → 128 ≤ b → list_any (λ x. x == b) text ≡ true → list_any (λ x. nat_le 128 x) text ≡ true
-any_other [] b h p = p
-any_other (x ∷ text) b h p =
-    elim (or_cases (x == b) (list_any (λ y. y == b) text) p) [
-      | inl e ↦ let high : 128 ≤ x = omega (arith, eqb-true x b e) in ap (λ v. v || list_any (λ y. nat_le 128 y) text) (le-leb 128 x high)
-      | inr q ↦ ap (λ v. nat_le 128 x || v) (any_other text b h q) ∙ or-true (nat_le 128 x)
-    ]
-
--- each byte of the text may occur
-pub admits_own : (text : List ℕ) (b : ℕ) → list_any (λ x. x == b) text ≡ true → admits (class_of text) b ≡ true
-admits_own text b p =
-    elim (cases_lt b 128) [
-      | inl low ↦ admits-class_of text b low ∙ p
-      | inr high ↦
-          ap (λ v. cond v (bit_at (class_of text).ascii b == 1) (class_of text).other) (le-ltb b 128 high) ∙ other-class_of text ∙ any_other text b high p
-    ]
-
-all_own : (whole text : List ℕ) → ((b : ℕ) → list_any (λ x. x == b) text ≡ true → admits (class_of whole) b ≡ true) → list_all (admits (class_of whole)) text ≡ true
-all_own whole [] h = refl
-all_own whole (x ∷ text) h =
-    ap (λ v. v && list_all (admits (class_of whole)) text) (h x (ap (λ v. v || list_any (λ y. y == x) text) (eq-eqb x x refl)))
-    ∙ all_own whole text (λ b p. h b (ap (λ v. (x == b) || v) p ∙ or-true (x == b)))
-
--- a text is of its own class
-pub of-class_of : (text : List ℕ) → IsOfClass (class_of text) text
-of-class_of text = record {
-  filled = λ p. ltb-true 0 (length text) (sym (never_empty-class_of text) ∙ p);
-  bytes = all_own text text (admits_own text);
-}
-
-and_none : (a b n : ℕ) → bit_and a b ≡ 0 → (bit_at a n == 1) ≡ true → (bit_at b n == 1) ≡ true → ⊥
-and_none a b n z p q =
-    let both : bit_at (bit_and a b) n ≡ 0 = ap (λ x. bit_at x n) z ∙ bit_at-zero n in
-    omega (arith, bit_at_and a b n, both, eqb-true (bit_at a n) 1 p, eqb-true (bit_at b n) 1 q)
-
-parts_none : (z o : Bool) → (not z || o) ≡ false → (z ≡ true) × (o ≡ false)
-parts_none true o h = (refl, h)
-parts_none false o h = absurd (cc)
-
-both_none : (a b : Bool) → (a && b) ≡ false → a ≡ true → b ≡ true → ⊥
-both_none true b h p q = cc (h, q)
-both_none false b h p q = cc p
-
--- a byte of one class is none of a class that shares no byte with it
-pub apart : (c s : TextClass) (b : ℕ) → shares_byte c s ≡ false → admits c b ≡ true → admits s b ≡ true → ⊥
-apart c s b h p q =
-    let n = parts_none (bit_and c.ascii s.ascii == 0) (c.other && s.other) h in
-    elim (cases_lt b 128) [
-      | inl low ↦
-          let e = lt-ltb b 128 low in
-          and_none c.ascii s.ascii b (eqb-true (bit_and c.ascii s.ascii) 0 n.0)
-          (subst (λ v. cond v (bit_at c.ascii b == 1) c.other ≡ true) e p)
-          (subst (λ v. cond v (bit_at s.ascii b == 1) s.other ≡ true) e q)
-      | inr high ↦
-          let e = le-ltb b 128 high in
-          both_none c.other s.other n.1
-          (subst (λ v. cond v (bit_at c.ascii b == 1) c.other ≡ true) e p)
-          (subst (λ v. cond v (bit_at s.ascii b == 1) s.other ≡ true) e q)
-    ]
