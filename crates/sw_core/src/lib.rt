@@ -11,6 +11,7 @@ pub mod entries;
 pub mod faithful;
 pub mod formats;
 pub mod free;
+pub mod linked;
 pub mod ordered_map;
 pub mod recode;
 pub mod same;
