@@ -4,6 +4,7 @@
 pub mod adapter;
 pub mod as_;
 pub mod boxed;
+pub mod boxed_slice;
 pub mod deque;
 pub mod display;
 mod each;
