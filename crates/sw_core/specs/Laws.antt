@@ -6,6 +6,7 @@ pub mod Each
 pub mod Within
 pub mod Images
 pub mod Vec
+pub mod Option
 pub mod Entries
 pub mod OrderedMap
 pub mod Display

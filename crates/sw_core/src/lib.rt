@@ -13,6 +13,7 @@ pub mod faithful;
 pub mod formats;
 pub mod free;
 pub mod linked;
+pub mod option;
 pub mod ordered_map;
 pub mod recode;
 pub mod same;
