@@ -9,5 +9,6 @@ pub mod Vec
 pub mod Option
 pub mod Entries
 pub mod OrderedMap
+pub mod Set
 pub mod Display
 pub mod Again

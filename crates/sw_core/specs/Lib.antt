@@ -4,6 +4,7 @@ pub mod Vec
 pub mod Option
 pub mod Entries
 pub mod OrderedMap
+pub mod Set
 pub mod Display
 pub mod Faithful
 pub mod Recoding

@@ -15,6 +15,7 @@ pub mod free;
 pub mod linked;
 pub mod option;
 pub mod ordered_map;
+pub mod ordered_set;
 pub mod recode;
 pub mod same;
 pub mod token;
