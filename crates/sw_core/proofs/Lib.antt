@@ -1,3 +1,4 @@
+pub mod Iterated
 pub mod Rows
 pub mod Places
 pub mod Children

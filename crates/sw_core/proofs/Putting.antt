@@ -54,33 +54,6 @@ module _ {S T : Type 0} (put : Tree → S → S) (w : Writes) (f : T → Meaning
       let filled : put_values xs (opened false old) ≡ Ok now = rw same h in
       subst (λ r. IsBuilt x r new) (rw (values (w (at_value m)) f xs) (closed_on put closed (opened false old) old now (traverse (λ x. w (at_value m) (f x)) xs) (lists old) filled)) k
 
-  next_put : (a : Result Tree SerError) (b c : Result (List Tree) SerError) (s : S) (after : S → Result S SerError) → ((u : S) → bind c (λ ts. Ok (puts put ts u)) ≡ bind (bind b (λ ts. Ok (puts put ts u))) after) →
-      bind (bind a (λ t. bind c (λ ts. Ok (t ∷ ts)))) (λ ts. Ok (puts put ts s)) ≡ bind (bind (bind a (λ t. bind b (λ ts. Ok (t ∷ ts)))) (λ ts. Ok (puts put ts s))) after
-  next_put (Ok t) (Ok ts) (Ok us) s after later = later (put t s)
-  next_put (Ok t) (Ok ts) (Err e) s after later = later (put t s)
-  next_put (Ok t) (Err d) (Ok us) s after later = later (put t s)
-  next_put (Ok t) (Err d) (Err e) s after later = later (put t s)
-  next_put (Err e) b c s after later = refl
-
-  append : (xs ys : List T) (s : S) → put_values (xs ++ ys) s ≡ bind (put_values xs s) (put_values ys)
-  append [] ys s = refl
-  append (x ∷ xs) ys s =
-      let g : T → Result Tree SerError = λ y. w (at_value m) (f y) in
-      next_put (g x) (traverse g xs) (traverse g (xs ++ ys)) s (put_values ys) (append xs ys)
-
-  -- the values of two lists, one behind the other
-  module _ (xs ys all : List T) (is : xs ++ ys ≡ all) (s : S) where
-    pub front_refused : (e : SerFail) (new : S) → IsBuilt (Err e) (put_values xs s) new → IsBuilt (Err e) (put_values all s) new
-    front_refused (ser.Unwritable e) new h = rw (← is) (append xs ys s ∙ ap (λ r. bind r (put_values ys)) h)
-    front_refused ser.Memory new h = tt
-
-    pub back_refused : (mid : S) → put_values xs s ≡ Ok mid → (e : SerFail) (new : S) → IsBuilt (Err e) (put_values ys mid) new → IsBuilt (Err e) (put_values all s) new
-    back_refused mid k (ser.Unwritable e) new h = rw (← is) (append xs ys s ∙ ap (λ r. bind r (put_values ys)) k ∙ h)
-    back_refused mid k ser.Memory new h = tt
-
-    pub both_put : (mid now : S) → put_values xs s ≡ Ok mid → put_values ys mid ≡ Ok now → put_values all s ≡ Ok now
-    both_put mid now k h = rw (← is) (append xs ys s ∙ ap (λ r. bind r (put_values ys)) k ∙ h)
-
 -- ---- maps
 
 pairs : {A B : Type 0} (k w : Meaning → Result Tree SerError) (f : A → Meaning) (g : B → Meaning) (xs : List (A × B)) →

@@ -1,5 +1,6 @@
 -- What models and private clauses alone cite.
 pub mod Rows
+pub mod Iterated
 pub mod Putting
 pub mod Printing
 pub mod ByteWire

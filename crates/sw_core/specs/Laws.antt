@@ -6,7 +6,9 @@ pub mod Each
 pub mod Within
 pub mod Images
 pub mod Vec
+pub mod Option
 pub mod Entries
 pub mod OrderedMap
+pub mod Set
 pub mod Display
 pub mod Again

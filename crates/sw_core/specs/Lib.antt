@@ -1,8 +1,10 @@
 pub mod Rows
 pub mod Plans
 pub mod Vec
+pub mod Option
 pub mod Entries
 pub mod OrderedMap
+pub mod Set
 pub mod Display
 pub mod Faithful
 pub mod Recoding

@@ -47,14 +47,8 @@ impl<T: Meant, A: DeserializeAs<T>> DeserializeAs<Box<T>> for Box<A> {
         mode: Mode,
         log: &mut Skipped,
     ) -> Result<Box<T>, DeFail> {
-        match A::deserialize_as(alloc, view, mode, log) {
-            Ok(value) => match Box::new(alloc, value) {
-                Ok(boxed) => Ok(boxed),
-                Err(_) => Err(DeFail::Memory),
-            },
-            Err(DeFail::Refused(refusal)) => Err(DeFail::Refused(refusal)),
-            Err(DeFail::Memory) => Err(DeFail::Memory),
-        }
+        let value = A::deserialize_as(alloc, view, mode, log)?;
+        Ok(Box::new(alloc, value)?)
     }
 
     ghost lawful = { A.lawful };

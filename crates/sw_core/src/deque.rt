@@ -27,11 +27,7 @@ impl<T: Meant, A: SerializeAs<T>> SerializeAs<VecDeque<T>> for VecDeque<A> {
         source: &VecDeque<T>,
         mode: Mode,
     ) -> Result<(), SerFail> {
-        let (front, back) = source.as_slices();
-        out.open_list(source.len())?;
-        each::put_each::<T, A, B>(alloc, out, front, mode)?;
-        each::put_each::<T, A, B>(alloc, out, back, mode)?;
-        out.close()
+        each::write_list::<T, A, B, _>(alloc, out, source.len(), source.iter(), mode)
     }
 }
 
@@ -58,11 +54,8 @@ impl<T: Meant, A: DeserializeAs<T>> DeserializeAs<VecDeque<T>> for VecDeque<A> {
         mode: Mode,
         log: &mut Skipped,
     ) -> Result<VecDeque<T>, DeFail> {
-        match each::read_list::<T, A>(alloc, view, mode, log) {
-            Ok(values) => Ok(VecDeque::from_vec(values)),
-            Err(DeFail::Refused(refusal)) => Err(DeFail::Refused(refusal)),
-            Err(DeFail::Memory) => Err(DeFail::Memory),
-        }
+        let values = each::read_list::<T, A>(alloc, view, mode, log)?;
+        Ok(VecDeque::from_vec(values))
     }
 
     ghost lawful = { list_lawful A.skips A.lawful };

@@ -1,12 +1,15 @@
 #![tactic(auto, using(sw_tree::specs::Laws::Logs::gains))]
 
-ghost use Rattle.std.specs.Prelude.{map};
+ghost use Rattle.std.specs.Prelude.{List, map};
+ghost use Rattle.std.specs.Iterator.{IsFinite};
+ghost use Rattle.std.specs.Map.Iter.{deref};
 ghost use Rattle.sw_tree.specs.Building.{IsBuilt, IsPut};
 ghost use Rattle.sw_tree.specs.Meant.{list_meaning};
 ghost use Rattle.sw_tree.specs.Mode.{at_value};
 ghost use Rattle.sw_tree.specs.Placed.{placed, placed_notes};
 ghost use Rattle.sw_tree.specs.View.{seen, tree_of};
 ghost use Rattle.sw_elem.specs.Answers.{IsRead, IsLogged};
+ghost use Rattle.sw_core.specs.Inner.Iterated.{Iterates};
 ghost use Rattle.sw_core.specs.Inner.Putting.{all_put};
 ghost use Rattle.sw_core.specs.Inner.Rows.{seen_reads, seen_logs};
 ghost use Rattle.sw_core.specs.Rows.{reader, each_by};
@@ -22,31 +25,37 @@ use sw_tree::mode::Mode;
 use sw_tree::skipped::Skipped;
 use sw_tree::view::{Items, View};
 
-/// Puts in the list of these values, each by `A` in value place.
+/// Puts in the list of these values, each by `A` in value place. `count` is how many they are, and
+/// decides nothing.
 ///
 /// The first part that isn't written decides. Without one, a list of which a part has 128 levels is
 /// `TooDeep`.
-pub fn write_list<T: Meant, A: SerializeAs<T>, B: Builds>(
+pub fn write_list<'a, T: Meant + 'a, A: SerializeAs<T>, B: Builds, I: Iterator<Item = &'a T>>(
     alloc: Global,
     out: &mut B,
-    values: &[T],
+    count: usize,
+    values: I,
     mode: Mode,
 ) -> Result<(), SerFail>
-    ensures { IsPut B.put result (list_writes A.writes mode (list_meaning T.meaning values.now)) out.old out.new }
+    requires can { I.can_next values }
+    requires ends { IsFinite (I.remaining values) }
+    ensures { (xs : List T) → Iterates deref I.next_gives xs values → IsPut B.put result (list_writes A.writes mode (list_meaning T.meaning xs)) out.old out.new }
 {
-    out.open_list(values.len())?;
-    put_each::<T, A, B>(alloc, out, values, mode)?;
+    out.open_list(count)?;
+    put_each::<T, A, B, I>(alloc, out, values, mode)?;
     out.close()
 }
 
 /// Puts in these values one after another, each by `A` in value place.
-pub fn put_each<T: Meant, A: SerializeAs<T>, B: Builds>(
+fn put_each<'a, T: Meant + 'a, A: SerializeAs<T>, B: Builds, I: Iterator<Item = &'a T>>(
     alloc: Global,
     out: &mut B,
-    values: &[T],
+    values: I,
     mode: Mode,
 ) -> Result<(), SerFail>
-    ensures { IsBuilt result (all_put B.put (λ x. A.writes (at_value mode) (T.meaning x)) values.now out.old) out.new }
+    requires can { I.can_next values }
+    requires ends { IsFinite (I.remaining values) }
+    ensures { (xs : List T) → Iterates deref I.next_gives xs values → IsBuilt result (all_put B.put (λ x. A.writes (at_value mode) (T.meaning x)) xs out.old) out.new }
 {
     for value in values {
         A::write_as(alloc, out, value, mode.value())?;

@@ -4,6 +4,7 @@
 pub mod adapter;
 pub mod as_;
 pub mod boxed;
+pub mod boxed_slice;
 pub mod deque;
 pub mod display;
 mod each;
@@ -11,7 +12,10 @@ pub mod entries;
 pub mod faithful;
 pub mod formats;
 pub mod free;
+pub mod linked;
+pub mod option;
 pub mod ordered_map;
+pub mod ordered_set;
 pub mod recode;
 pub mod same;
 pub mod token;

@@ -67,14 +67,8 @@ impl<K: Keyed, V: Meant, KA: DeserializeAs<K> + Ord, VA: DeserializeAs<V>> Deser
         mode: Mode,
         log: &mut Skipped,
     ) -> Result<BTreeMap<K, V>, DeFail> {
-        match entries::read_entries::<K, V, KA, VA>(alloc, view, mode, log) {
-            Ok(pairs) => match put_in_order(alloc, pairs) {
-                Ok(map) => Ok(map),
-                Err(_) => Err(DeFail::Memory),
-            },
-            Err(DeFail::Refused(refusal)) => Err(DeFail::Refused(refusal)),
-            Err(DeFail::Memory) => Err(DeFail::Memory),
-        }
+        let pairs = entries::read_entries::<K, V, KA, VA>(alloc, view, mode, log)?;
+        Ok(put_in_order(alloc, pairs)?)
     }
 
     ghost lawful = { ordered_map_lawful K.order K.ranks KA.skips KA.lawful VA.skips VA.lawful };

@@ -16,7 +16,8 @@ use crate::recode::RecodeError;
 use crate::same::Same;
 use crate::token::Faithful;
 use std::alloc::{AllocError, Global};
-use std::collections::{BTreeMap, VecDeque};
+use std::boxed::BoxedSlice;
+use std::collections::{BTreeMap, BTreeSet, LinkedList, VecDeque};
 use sw_check::blame::CheckFail;
 use sw_check::check;
 use sw_check::expr::Expr;
@@ -517,5 +518,162 @@ fn boxes_and_maps_are_described(rt: HostRuntime) -> Result<(), AllocError> {
     }
     assert!(rt; !<Box<Same> as DeserializeAs<Box<u8>>>::FREE);
     assert!(rt; !<Counts as DeserializeAs<BTreeMap<String, u32>>>::FREE);
+    Ok(())
+}
+
+/// A list of these texts.
+fn list_of(alloc: Global, texts: &[&str]) -> Result<Node, AllocError> {
+    let mut items = Vec::new(alloc);
+    for text in texts {
+        if items.push(text_of(alloc, *text)?).is_err() {
+            return Err(AllocError);
+        }
+    }
+    match Node::list(items) {
+        Ok(list) => Ok(list),
+        Err(_) => Ok(Node::null()),
+    }
+}
+
+/// Whether the view's tree is a list of these texts, in order.
+fn are_items(view: View<'_>, want: &[&str]) -> bool {
+    let Some(mut items) = view.items() else {
+        return false;
+    };
+    for text in want {
+        match items.next() {
+            Some(item) if item.as_text() == Some(*text) => {}
+            _ => return false,
+        }
+    }
+    matches!(items.next(), None)
+}
+
+/// Whether the list of the texts `read`, once read by `A`, is written as that of `written`.
+fn comes_back_as<T: Meant, A: Adapter<T>>(
+    alloc: Global,
+    read: &[&str],
+    written: &[&str],
+) -> Result<bool, AllocError> {
+    let Ok(value) = read_by::<T, A>(alloc, &list_of(alloc, read)?) else {
+        return Ok(false);
+    };
+    let Ok(node) = As::<A>::serialize(alloc, &value, Mode::plain(WireKind::Json)) else {
+        return Ok(false);
+    };
+    Ok(are_items(Doc::from_node(alloc, &node)?.view(), written))
+}
+
+/// The error with which the list of these texts is refused by `A`, and the place of its node.
+fn list_refusal<T: Meant, A: DeserializeAs<T>>(
+    alloc: Global,
+    texts: &[&str],
+) -> Result<Option<Refusal>, AllocError> {
+    match read_by::<T, A>(alloc, &list_of(alloc, texts)?) {
+        Err(DeFail::Refused(refusal)) => Ok(Some(refusal)),
+        _ => Ok(None),
+    }
+}
+
+#[test]
+fn linked_lists_and_boxed_slices_keep_their_order(rt: HostRuntime) -> Result<(), AllocError> {
+    let alloc = rt.alloc();
+    for texts in [
+        [].as_slice(),
+        ["1"].as_slice(),
+        ["2", "1", "2", "30"].as_slice(),
+    ] {
+        assert!(rt;
+            comes_back_as::<LinkedList<u32>, LinkedList<DisplayFromStr>>(alloc, texts, texts)?
+        );
+        assert!(rt;
+            comes_back_as::<BoxedSlice<u32>, BoxedSlice<DisplayFromStr>>(alloc, texts, texts)?
+        );
+    }
+    let want = Some(Refusal {
+        error: DeError::Text,
+        place: 2,
+    });
+    let texts = ["1", "x", "y"].as_slice();
+    assert!(rt; list_refusal::<LinkedList<u32>, LinkedList<DisplayFromStr>>(alloc, texts)? == want);
+    assert!(rt; list_refusal::<BoxedSlice<u32>, BoxedSlice<DisplayFromStr>>(alloc, texts)? == want);
+    Ok(())
+}
+
+#[test]
+fn a_set_is_in_order_and_has_no_item_twice(rt: HostRuntime) -> Result<(), AllocError> {
+    let alloc = rt.alloc();
+    for (read, written) in [
+        ([].as_slice(), [].as_slice()),
+        (["7"].as_slice(), ["7"].as_slice()),
+        (
+            ["20", "1", "20", "3", "1"].as_slice(),
+            ["1", "3", "20"].as_slice(),
+        ),
+    ] {
+        assert!(rt;
+            comes_back_as::<BTreeSet<u32>, BTreeSet<DisplayFromStr>>(alloc, read, written)?
+        );
+    }
+    let texts = ["1", "1", "x"].as_slice();
+    assert!(rt;
+        list_refusal::<BTreeSet<u32>, BTreeSet<DisplayFromStr>>(alloc, texts)?
+            == Some(Refusal {
+                error: DeError::Text,
+                place: 3
+            })
+    );
+    Ok(())
+}
+
+#[test]
+fn null_is_no_value(rt: HostRuntime) -> Result<(), AllocError> {
+    let alloc = rt.alloc();
+    let mode = Mode::plain(WireKind::Json);
+    match read_by::<Option<u32>, Option<DisplayFromStr>>(alloc, &Node::null()) {
+        Ok(None) => match As::<Option<DisplayFromStr>>::serialize(alloc, &None::<u32>, mode) {
+            Ok(node) => assert!(rt; node.kind() == Kind::Null),
+            Err(_) => assert!(rt; false),
+        },
+        _ => assert!(rt; false),
+    }
+    match read_by::<Option<u32>, Option<DisplayFromStr>>(alloc, &text_of(alloc, "7")?) {
+        Ok(Some(7)) => match As::<Option<DisplayFromStr>>::serialize(alloc, &Some(7u32), mode) {
+            Ok(node) => assert!(rt; node.as_text() == Some("7")),
+            Err(_) => assert!(rt; false),
+        },
+        _ => assert!(rt; false),
+    }
+    match read_by::<Option<u32>, Option<DisplayFromStr>>(alloc, &text_of(alloc, "x")?) {
+        Err(DeFail::Refused(refusal)) => assert!(rt;
+            refusal
+                == Refusal {
+                    error: DeError::Text,
+                    place: 0
+                }
+        ),
+        _ => assert!(rt; false),
+    }
+    Ok(())
+}
+
+#[test]
+fn further_containers_are_described(rt: HostRuntime) -> Result<(), AllocError> {
+    let alloc = rt.alloc();
+    let value = Mode::plain(WireKind::Json);
+    let linked = <LinkedList<Same> as Adapter<LinkedList<u8>>>::describe(alloc)?;
+    let boxed = <BoxedSlice<Same> as Adapter<BoxedSlice<u8>>>::describe(alloc)?;
+    let ordered = <BTreeSet<Same> as Adapter<BTreeSet<u8>>>::describe(alloc)?;
+    let option = <Option<Same> as Adapter<Option<u8>>>::describe(alloc)?;
+    for (mode, want) in [(value, None), (value.key(), Some(Rule::S2))] {
+        assert!(rt; fault(alloc, &linked, mode) == want);
+        assert!(rt; fault(alloc, &boxed, mode) == want);
+        assert!(rt; fault(alloc, &ordered, mode) == want);
+        assert!(rt; fault(alloc, &option, mode) == want);
+    }
+    let twice = <Option<Option<Same>> as Adapter<Option<Option<u8>>>>::describe(alloc)?;
+    assert!(rt; fault(alloc, &twice, value) == Some(Rule::S4));
+    assert!(rt; <Option<Same> as DeserializeAs<Option<u8>>>::FREE);
+    assert!(rt; !<Option<Same> as DeserializeAs<Option<String>>>::FREE);
     Ok(())
 }

@@ -26,7 +26,7 @@ impl<T: Meant, A: SerializeAs<T>> SerializeAs<Vec<T>> for Vec<A> {
         source: &Vec<T>,
         mode: Mode,
     ) -> Result<(), SerFail> {
-        each::write_list::<T, A, B>(alloc, out, source.as_slice(), mode)
+        each::write_list::<T, A, B, _>(alloc, out, source.len(), source.iter(), mode)
     }
 }
 

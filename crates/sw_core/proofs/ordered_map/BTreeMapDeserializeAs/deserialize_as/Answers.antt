@@ -3,9 +3,9 @@ use Rattle.sw_core.specs.Entries.{entries_reads, entries_spot}
 use Rattle.sw_core.proofs.InOrder.{map_put}
 use Rattle.sw_core.proofs.ordered_map.BTreeMapDeserializeAs.deserialize_as.Goals as goal
 
-pub returns-in-Ok-put_in_order-clause-answer : goal.returns-in-Ok-put_in_order-clause-answer
-returns-in-Ok-put_in_order-clause-answer g c =
+pub returns-clause-answer : goal.returns-clause-answer
+returns-clause-answer g c =
     let key = g.KA.DeserializeAs in
     let value = g.VA.DeserializeAs in
     map_put g.K.Ord.cmp g.K.Named.meaning g.K.Ranked.order g.met.K.Ranked.order_is g.V.Named.meaning (entries_reads key.reads key.spot key.skips value.reads value.spot value.skips)
-    (entries_spot key.reads key.spot key.skips value.reads value.spot value.skips) c.args.mode (seen c.args.view) c.in-Ok.pairs.items c.in-Ok-put_in_order.map.entries c.in-Ok.ensures.answer c.in-Ok-put_in_order.ensures
+    (entries_spot key.reads key.spot key.skips value.reads value.spot value.skips) c.args.mode (seen c.args.view) c.in_ok-pairs.pairs.items c.in_ok-put_in_order.field-0.entries c.in_ok-pairs.ensures.answer c.in_ok-put_in_order.ensures

@@ -1,0 +1,8 @@
+use Rattle.std.proofs.Common.{rules}
+use Rattle.std.specs.Box.{boxed_slice_items}
+use Rattle.std.specs.Slice.Iter.{iter_rest}
+use Rattle.sw_core.proofs.Iterated.{rest_iterates}
+use Rattle.sw_core.proofs.boxed_slice.BoxedSliceSerializeAs.write_as.Goals as goal
+
+pub returns : goal.returns
+returns g c = c.write_list.ensures (boxed_slice_items c.args.source.now) (rest_iterates iter_rest (boxed_slice_items c.args.source.now) c.iter.result (search rules))

@@ -1,0 +1,10 @@
+use Rattle.sw_tree.specs.View.{seen}
+use Rattle.sw_core.specs.Vec.{list_reads, list_spot}
+use Rattle.sw_core.proofs.InOrder.{set_put}
+use Rattle.sw_core.proofs.ordered_set.BTreeSetDeserializeAs.deserialize_as.Goals as goal
+
+pub returns-clause-answer : goal.returns-clause-answer
+returns-clause-answer g c =
+    let item = g.A.DeserializeAs in
+    set_put g.T.Ord.cmp g.T.Named.meaning g.T.Ranked.order g.met.T.Ranked.order_is (list_reads item.reads item.spot item.skips) (list_spot item.reads item.spot item.skips) c.args.mode (seen c.args.view)
+    c.in_ok-values.values.items c.in_ok-put_in_order.field-0.keys c.in_ok-values.ensures.answer c.in_ok-put_in_order.ensures
