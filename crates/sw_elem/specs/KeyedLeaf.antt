@@ -1,15 +1,12 @@
 -- The laws of whole numbers, at a type of any range, and of truth values.
-use Rattle.std.specs.Prelude.{◌≡◌, ℕ, ◌<◌, ◌≤◌, ◌^◌, ℤ, pos, negsuc, List, Bool, true, false, if◌then◌else◌, Option, Some, None, Ok, Err, Result}
+use Rattle.std.specs.Prelude.{◌≡◌, ℕ, ℤ, List, Bool, true, false, if◌then◌else◌, Option, Some, None, Ok, Err, Result}
 use Rattle.std.proofs.Common.{refl, ap, sym, ◌∙◌, subst, arith}
 use Rattle.std.specs.Option.{ok_or, option_or, option_and_then}
 use Rattle.std.specs.Fmt.{signed_decimal}
-use mir.Val.{hbits}
-use Rattle.std.specs.Int.{Width}
-use Rattle.std.proofs.lemmas.Bool.Decides.{Decides-ltb}
 use Rattle.sw_tree.specs.Image.{bool_text}
 use Rattle.sw_tree.specs.Kinds.{has}
 use Rattle.sw_tree.specs.Meaning.{Meaning, number, truth}
-use Rattle.sw_tree.specs.Meant.{IsBelow, IsSigned, IsTruth}
+use Rattle.sw_tree.specs.Meant.{IsTruth}
 use Rattle.sw_tree.specs.Number.{key_number}
 use Rattle.sw_tree.specs.NumberLaws.{IsInRange, key_number-signed_decimal}
 use Rattle.sw_tree.specs.Proper.{IsNodeTree}
@@ -26,7 +23,6 @@ use Rattle.sw_tree.specs.declared.mode.Kind.TheVariants as kind
 use Rattle.sw_tree.specs.declared.fail.DeError.{DeError}
 use Rattle.sw_tree.specs.declared.fail.DeError.TheVariants as fail
 use Rattle.sw_check.specs.Facts.{claims_at, read_at}
-use Rattle.sw_elem.specs.DecimalLaws.{is_within-decides, half_most}
 use Rattle.sw_elem.specs.Equations.{own_spot}
 use Rattle.sw_check.specs.declared.grade.Grade.{Grade}
 use Rattle.sw_check.specs.declared.grade.Grade.TheVariants.{Exact}
@@ -35,7 +31,9 @@ use Rattle.sw_elem.specs.KeyPlace.{is_plain_key, key_text, keyed_reads}
 use Rattle.sw_elem.specs.Laws.{HasSpotKinds}
 use Rattle.sw_elem.specs.Lawful.{LawfulLeaf, same_norm}
 use Rattle.sw_elem.specs.Leaf.{IsBack, IsLeaf, own_kind, keeps_leaf}
-use Rattle.sw_elem.specs.Numbers.{number_writes, is_below, is_within, ranged, number_reads}
+use Rattle.sw_elem.specs.Integer.{IsInteger}
+use Rattle.sw_elem.specs.Numbers.{number_writes, ranged, ranged_or_invalid, number_reads}
+use Rattle.sw_elem.specs.NumberLaws.{wide_range}
 use Rattle.sw_elem.specs.Truths.{truth_named, truth_writes, truth_reads}
 
 -- ---- the kinds that are read
@@ -113,16 +111,16 @@ int_kind : (t : Tree) (n : ℤ) → int_at t ≡ Some n → kind_of t ≡ kind.I
 int_kind (node.int n) k h = refl
 int_kind _ k h = absurd (cc)
 
-ranged_never : (b : Bool) (v : Meaning) (k : Kind) → (if b then Ok v else Err fail.InvalidValue) ≡ Err (fail.InvalidType k) → ⊥
-ranged_never true v k p = cc
-ranged_never false v k p = cc
+ranged_never : (o : Option Meaning) (k : Kind) → ok_or o fail.InvalidValue ≡ Err (fail.InvalidType k) → ⊥
+ranged_never (Some v) k p = cc
+ranged_never None k p = cc
 
 module _ (fits : ℤ → Bool) (n : ℤ) (inside : fits n ≡ true) (r : IsInRange n) where
-  in_range : ranged fits n ≡ Ok (number n)
+  in_range : ranged_or_invalid fits n ≡ Ok (number n)
   in_range = rw inside refl
 
-  spelled : bind (ok_or (option_or None (key_number (signed_decimal n))) (fail.InvalidType kind.Text)) (ranged fits) ≡ Ok (number n)
-  spelled = ap (λ (o : Option ℤ). bind (ok_or (option_or None o) (fail.InvalidType kind.Text)) (ranged fits)) (key_number-signed_decimal n r) ∙ in_range
+  spelled : bind (ok_or (option_or None (key_number (signed_decimal n))) (fail.InvalidType kind.Text)) (ranged_or_invalid fits) ≡ Ok (number n)
+  spelled = ap (λ (o : Option ℤ). bind (ok_or (option_or None o) (fail.InvalidType kind.Text)) (ranged_or_invalid fits)) (key_number-signed_decimal n r) ∙ in_range
 
   number_claimed : (w : WireKind) (p : Place) (b : Bool) → claims_at (stands true false) (record { wire = w; place = p; buffered = b }) ≡ true →
       IsBack (number_reads fits) (record { wire = w; place = p; buffered = b }) (node.int n) (number n)
@@ -131,26 +129,23 @@ module _ (fits : ℤ → Bool) (n : ℤ) (inside : fits n ≡ true) (r : IsInRan
   number_claimed Json Key false h = (node.text (signed_decimal n), refl, spelled)
   number_claimed Json Key true h = absurd (cc)
 
--- every meaning is a number that fits the type, and a tree
-abbrev pub AreNumbers : (ℤ → Bool) → (Meaning → Type 0) → Type 0
-AreNumbers fits P = (v : Meaning) → P v → (n : ℤ) × (v ≡ number n) × (fits n ≡ true) × IsInRange n
-
-module _ (fits : ℤ → Bool) (P : Meaning → Type 0) (are : AreNumbers fits P) where
+module _ (signed : Bool) (fits : ℤ → Bool) (P : Meaning → Type 0) (law : IsInteger signed fits P) where
   number_back : (m : Mode) → claims_at (stands true false) m ≡ true → (v : Meaning) → P v → IsBack (number_reads fits) m (number_node v) v
   unfolding number_node
   number_back m c v h =
-      let n = are v h in
-      subst (λ (u : Meaning). IsBack (number_reads fits) m (number_node u) u) (sym n.1) (number_claimed fits n.0 n.2 n.3 m.wire m.place m.buffered c)
+      let n = law.numbers v h in
+      let r = wide_range signed n.0 (law.wide n.0 n.2) in
+      subst (λ (u : Meaning). IsBack (number_reads fits) m (number_node u) u) (sym n.1) (number_claimed fits n.0 n.2 r m.wire m.place m.buffered c)
 
   number_kind : (v : Meaning) → P v → has (only kind.Int) (kind_of (number_node v)) ≡ true
   unfolding number_node
-  number_kind v h = let n = are v h in ap (λ (u : Meaning). has (only kind.Int) (kind_of (number_node u))) n.1
+  number_kind v h = let n = law.numbers v h in ap (λ (u : Meaning). has (only kind.Int) (kind_of (number_node u))) n.1
 
   number_nodes : (v : Meaning) → P v → IsNodeTree (number_node v)
   unfolding number_node
   number_nodes v h =
-      let n = are v h in
-      let is : IsNodeTree (node.int n.0) = record { proper = n.3; shallow = omega arith } in
+      let n = law.numbers v h in
+      let is : IsNodeTree (node.int n.0) = record { proper = wide_range signed n.0 (law.wide n.0 n.2); shallow = omega arith } in
       subst (λ (u : Meaning). IsNodeTree (number_node u)) (sym n.1) is
 
   number_leaf : IsLeaf P number_writes (number_reads fits) own_spot number_facts number_node
@@ -159,28 +154,13 @@ module _ (fits : ℤ → Bool) (P : Meaning → Type 0) (are : AreNumbers fits P
     back = number_back;
     written = number_kind;
     nodes = number_nodes;
-    read = λ m t v p. keyed_read int_at key_number kind.Int Exact int_kind (ranged fits) m t v p;
-    spots = λ m. keyed_spots (ranged fits) (λ n k p. ranged_never (fits n) (number n) k p) int_at key_number m;
+    read = λ m t v p. keyed_read int_at key_number kind.Int Exact int_kind (ranged_or_invalid fits) m t v p;
+    spots = λ m. keyed_spots (ranged_or_invalid fits) (λ n k p. ranged_never (ranged fits n) k p) int_at key_number m;
   }
 
   -- numbers of any range keep the laws of a leaf
   pub number_keeps : LawfulLeaf P number_writes (number_reads fits) own_spot number_facts same_norm (Unit {0})
   number_keeps = keeps_leaf P number_writes (number_reads fits) own_spot number_facts number_node number_leaf
-
-below_are : (limit : ℕ) → limit ≤ 2 ^ 128 → AreNumbers (is_below limit) (IsBelow limit)
-below_are limit most (number (pos n)) h = (pos n, refl, (Decides-ltb n limit).1 h, omega arith)
-below_are limit most _ h = absurd h
-
-pub unsigned_keeps : (limit : ℕ) → limit ≤ 2 ^ 128 → LawfulLeaf (IsBelow limit) number_writes (number_reads (is_below limit)) own_spot number_facts same_norm (Unit {0})
-unsigned_keeps limit most = number_keeps (is_below limit) (IsBelow limit) (below_are limit most)
-
-signed_are : (w : Width) → AreNumbers (is_within (2 ^ hbits w)) (IsSigned w)
-signed_are w (number (pos n)) h = let e : n < 2 ^ hbits w = h.sfits in (pos n, refl, (is_within-decides (2 ^ hbits w) (pos n)).1 e, omega (arith, half_most w))
-signed_are w (number (negsuc n)) h = let e : n < 2 ^ hbits w = h.sfits in (negsuc n, refl, (is_within-decides (2 ^ hbits w) (negsuc n)).1 e, omega (arith, half_most w))
-signed_are w _ h = absurd h
-
-pub signed_keeps : (w : Width) → LawfulLeaf (IsSigned w) number_writes (number_reads (is_within (2 ^ hbits w))) own_spot number_facts same_norm (Unit {0})
-signed_keeps w = number_keeps (is_within (2 ^ hbits w)) (IsSigned w) (signed_are w)
 
 -- ---- truth values
 

@@ -2,6 +2,7 @@ pub mod Equations
 pub mod Answers
 pub mod KeyPlace
 pub mod Numbers
+pub mod Integer
 pub mod NumberLaws
 pub mod Truths
 pub mod Texts
