@@ -1,5 +1,5 @@
 -- The law of decimal texts, at a type of any range.
-use Rattle.std.specs.Prelude.{ℕ, ◌<◌, ◌+◌, ◌^◌, ◌≡◌, ◌&&◌, ◌==◌, nat_lt, Bool, true, false, suc, List, length, Option, Some, None, ℤ, pos, negsuc, slice_index, if◌then◌else◌}
+use Rattle.std.specs.Prelude.{ℕ, ◌<◌, ◌+◌, ◌^◌, ◌≡◌, ◌==◌, nat_lt, Bool, true, false, suc, List, length, Option, Some, None, ℤ, pos, negsuc, slice_index}
 use Rattle.std.proofs.Common.{refl, sym, ap, subst, arith, ◌∙◌}
 use Rattle.std.specs.Bool.{Decides}
 use Rattle.std.specs.Fmt.{decimal, signed_decimal}

@@ -27,47 +27,16 @@ use Rattle.sw_elem.specs.Equations.{own_spot}
 use Rattle.sw_check.specs.declared.grade.Grade.{Grade}
 use Rattle.sw_check.specs.declared.grade.Grade.TheVariants.{Exact}
 use Rattle.sw_elem.specs.Facts.{only, either, stands, keyed, number_facts, truth_facts}
-use Rattle.sw_elem.specs.KeyPlace.{is_plain_key, key_text, keyed_reads}
-use Rattle.sw_elem.specs.Laws.{HasSpotKinds}
+use Rattle.sw_elem.specs.KeyPlace.{is_plain_key, key_text, keyed_at, keyed_reads}
 use Rattle.sw_elem.specs.Lawful.{LawfulLeaf, same_norm}
-use Rattle.sw_elem.specs.Leaf.{IsBack, IsLeaf, own_kind, keeps_leaf}
+use Rattle.sw_elem.specs.Leaf.{IsBack, IsLeaf, keeps_leaf}
 use Rattle.sw_elem.specs.Integer.{IsInteger}
 use Rattle.sw_elem.specs.Numbers.{number_writes, ranged, ranged_or_invalid, number_reads}
 use Rattle.sw_elem.specs.NumberLaws.{wide_range}
+use Rattle.sw_elem.specs.TakesLaws.{read_taken, takes_spots}
 use Rattle.sw_elem.specs.Truths.{truth_named, truth_writes, truth_reads}
 
 -- ---- the kinds that are read
-
-only_has : (k : Kind) → has (only k) k ≡ true
-only_has kind.Null = refl
-only_has kind.Bool = refl
-only_has kind.Int = refl
-only_has kind.Text = refl
-only_has kind.Bytes = refl
-only_has kind.List = refl
-only_has kind.Map = refl
-
-or_text_has : (k : Kind) → has (either k kind.Text) k ≡ true
-or_text_has kind.Null = refl
-or_text_has kind.Bool = refl
-or_text_has kind.Int = refl
-or_text_has kind.Text = refl
-or_text_has kind.Bytes = refl
-or_text_has kind.List = refl
-or_text_has kind.Map = refl
-
-own_read : (k : Kind) (g : Grade) (w : WireKind) (p : Place) (b : Bool) → has (read_at (keyed k g) (record { wire = w; place = p; buffered = b })) k ≡ true
-own_read k g Json Value b = only_has k
-own_read k g Json Key false = or_text_has k
-own_read k g Json Key true = only_has k
-own_read k g Compact p b = only_has k
-
-text_read : (k : Kind) (g : Grade) (w : WireKind) (p : Place) (b : Bool) → is_plain_key (record { wire = w; place = p; buffered = b }) ≡ true → has (read_at (keyed k g) (record { wire = w; place = p; buffered = b })) kind.Text ≡ true
-text_read k g Json Key false h = refl
-text_read k g Json Key true h = absurd (cc)
-text_read k g Json Value b h = absurd (cc)
-text_read k g Compact Value b h = absurd (cc)
-text_read k g Compact Key b h = absurd (cc)
 
 plain_text : (b : Bool) (s q : List ℕ) → (if b then Some s else None) ≡ Some q → b ≡ true
 plain_text true s q h = refl
@@ -78,23 +47,29 @@ key_texted : (m : Mode) (t : Tree) (q : List ℕ) → key_text m t ≡ Some q �
 key_texted m (node.text s) q h = (refl, plain_text (is_plain_key m) s q h)
 key_texted m _ q h = absurd (cc)
 
-module _ {A : Type 0} (own : Tree → Option A) (named : List ℕ → Option A) (k : Kind) (grade : Grade) (is : (t : Tree) (a : A) → own t ≡ Some a → kind_of t ≡ k) (g : A → Result Meaning DeError) where
-  read_kind : (m : Mode) (t : Tree) (a : Option A) (s : Option (List ℕ)) (e : DeError) (v : Meaning) →
-      own t ≡ a → key_text m t ≡ s → bind (ok_or (option_or a (option_and_then named s)) e) g ≡ Ok v → has (read_at (keyed k grade) m) (kind_of t) ≡ true
-  read_kind m t (Some a) s e v h q p = ap (has (read_at (keyed k grade) m)) (is t a h) ∙ own_read k grade m.wire m.place m.buffered
-  read_kind m t None (Some s) e v h q p = let c = key_texted m t s q in ap (has (read_at (keyed k grade) m)) c.0 ∙ text_read k grade m.wire m.place m.buffered c.1
-  read_kind m t None None e v h q p = absurd (cc)
+text_read : (k : Kind) (g : Grade) (w : WireKind) (p : Place) (b : Bool) → is_plain_key (record { wire = w; place = p; buffered = b }) ≡ true → has (read_at (keyed k g) (record { wire = w; place = p; buffered = b })) kind.Text ≡ true
+text_read k g Json Key false h = refl
+text_read k g Json Key true h = absurd (cc)
+text_read k g Json Value b h = absurd (cc)
+text_read k g Compact Value b h = absurd (cc)
+text_read k g Compact Key b h = absurd (cc)
 
-  pub keyed_read : (m : Mode) (t : Tree) (v : Meaning) → bind (keyed_reads own named m t) g ≡ Ok v → has (read_at (keyed k grade) m) (kind_of t) ≡ true
-  keyed_read m t v p = read_kind m t (own t) (key_text m t) (fail.InvalidType (kind_of t)) v refl refl p
+module _ (k : Kind) (grade : Grade) (only_has : has (only k) k ≡ true) (either_has : has (either k kind.Text) k ≡ true) where
+  own_read : (w : WireKind) (p : Place) (b : Bool) → has (read_at (keyed k grade) (record { wire = w; place = p; buffered = b })) k ≡ true
+  own_read Json Value b = only_has
+  own_read Json Key false = either_has
+  own_read Json Key true = only_has
+  own_read Compact p b = only_has
 
-module _ {A : Type 0} (g : A → Result Meaning DeError) (never : (a : A) (k : Kind) → g a ≡ Err (fail.InvalidType k) → ⊥) where
-  refused_kind : (t : Tree) (k : Kind) (a : Option A) → bind (ok_or a (fail.InvalidType (kind_of t))) g ≡ Err (fail.InvalidType k) → kind_of t ≡ k
-  refused_kind t k (Some a) p = absurd (never a k p)
-  refused_kind t k None p = cc
+  module _ {A : Type 0} (own : Tree → Option A) (named : List ℕ → Option A) (is : (t : Tree) (x : A) → own t ≡ Some x → kind_of t ≡ k) where
+    by_parts : (m : Mode) (t : Tree) (o : Option A) (s : Option (List ℕ)) (x : A) →
+        own t ≡ o → key_text m t ≡ s → option_or o (option_and_then named s) ≡ Some x → has (read_at (keyed k grade) m) (kind_of t) ≡ true
+    by_parts m t (Some y) s x h q p = ap (has (read_at (keyed k grade) m)) (is t y h) ∙ own_read m.wire m.place m.buffered
+    by_parts m t None (Some s) x h q p = let c = key_texted m t s q in ap (has (read_at (keyed k grade) m)) c.0 ∙ text_read k grade m.wire m.place m.buffered c.1
+    by_parts m t None None x h q p = absurd (cc)
 
-  pub keyed_spots : (own : Tree → Option A) (named : List ℕ → Option A) (m : Mode) → HasSpotKinds (λ n t. bind (keyed_reads own named n t) g) own_spot m
-  keyed_spots own named m t k p = own_kind t k (refused_kind t k (option_or (own t) (option_and_then named (key_text m t))) p)
+    keyed_read : (g : A → Result Meaning DeError) (m : Mode) (t : Tree) (v : Meaning) → bind (keyed_reads own named m t) g ≡ Ok v → has (read_at (keyed k grade) m) (kind_of t) ≡ true
+    keyed_read g m t v p = let q = read_taken (keyed_at own named m) g t v p in by_parts m t (own t) (key_text m t) q.0 refl refl q.1
 
 -- ---- whole numbers
 
@@ -154,8 +129,8 @@ module _ (signed : Bool) (fits : ℤ → Bool) (P : Meaning → Type 0) (law : I
     back = number_back;
     written = number_kind;
     nodes = number_nodes;
-    read = λ m t v p. keyed_read int_at key_number kind.Int Exact int_kind (ranged_or_invalid fits) m t v p;
-    spots = λ m. keyed_spots (ranged_or_invalid fits) (λ n k p. ranged_never (ranged fits n) k p) int_at key_number m;
+    read = λ m t v p. keyed_read kind.Int Exact refl refl int_at key_number int_kind (ranged_or_invalid fits) m t v p;
+    spots = takes_spots (keyed_at int_at key_number) (ranged_or_invalid fits) (λ n k p. ranged_never (ranged fits n) k p);
   }
 
   -- numbers of any range keep the laws of a leaf
@@ -206,8 +181,8 @@ truth_leaf = record {
   back = truth_back;
   written = truth_is;
   nodes = truth_nodes;
-  read = λ m t v p. keyed_read truth_at truth_named kind.Bool Exact truth_kind (λ b. Ok (truth b)) m t v p;
-  spots = λ m. keyed_spots (λ (b : Bool). Ok (truth b)) (λ b k p. cc) truth_at truth_named m;
+  read = λ m t v p. keyed_read kind.Bool Exact refl refl truth_at truth_named truth_kind (λ b. Ok (truth b)) m t v p;
+  spots = takes_spots (keyed_at truth_at truth_named) (λ (b : Bool). Ok (truth b)) (λ b k p. cc);
 }
 
 pub truth_keeps : LawfulLeaf IsTruth truth_writes truth_reads own_spot truth_facts same_norm (Unit {0})

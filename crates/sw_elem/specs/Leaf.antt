@@ -3,10 +3,9 @@ use Rattle.std.specs.Prelude.{◌≡◌, [], Bool, true, false, not, cond, Some,
 use Rattle.std.proofs.Common.{refl, ap, subst, ◌∙◌}
 use Rattle.sw_tree.specs.Image.{image}
 use Rattle.sw_tree.specs.Meaning.{Meaning}
-use Rattle.sw_tree.specs.Nodes.{kinds, HasKind}
 use Rattle.sw_tree.specs.Kinds.{has}
 use Rattle.sw_tree.specs.Proper.{IsNodeTree}
-use Rattle.sw_tree.specs.Tree.{Tree, null, truth, int, text, bytes, list, map, kind_of}
+use Rattle.sw_tree.specs.Tree.{Tree, kind_of}
 use Rattle.sw_tree.specs.declared.kinds.Kinds.{Kinds}
 use Rattle.sw_tree.specs.declared.mode.Mode.{Mode}
 use Rattle.sw_tree.specs.declared.mode.WireKind.{WireKind}
@@ -23,7 +22,7 @@ use Rattle.sw_check.specs.declared.facts.Facts.{Facts}
 use Rattle.sw_check.specs.declared.rule.Rule.TheVariants.{S1, S2}
 use Rattle.sw_elem.specs.Equations.{Writes, Reads, Spots, Skips}
 use Rattle.sw_elem.specs.Facts.{everywhere}
-use Rattle.sw_elem.specs.Laws.{Norm, HasSpotKinds}
+use Rattle.sw_elem.specs.Statements.{Norm, HasSpotKinds}
 use Rattle.sw_elem.specs.Lawful.{Lawful, LawfulLeaf, same_norm}
 
 -- the tree has an image in the mode, which is read as that meaning
@@ -38,16 +37,6 @@ pub record IsLeaf (P : Meaning → Type 0) (writes : Writes) (reads : Reads) (sp
   pub nodes : (v : Meaning) → P v → IsNodeTree (node v)
   pub read : (m : Mode) (t : Tree) (v : Meaning) → reads m t ≡ Ok v → has (read_at f m) (kind_of t) ≡ true
   pub spots : (m : Mode) → HasSpotKinds reads spot m
-
--- a tree's own node has the number 0
-pub own_kind : (t : Tree) (k : Kind) → kind_of t ≡ k → HasKind (kinds t) 0 k
-own_kind null k h = ap Some h
-own_kind (truth b) k h = ap Some h
-own_kind (int n) k h = ap Some h
-own_kind (text s) k h = ap Some h
-own_kind (bytes s) k h = ap Some h
-own_kind (list ts) k h = ap Some h
-own_kind (map es) k h = ap Some h
 
 same_kinds : (ks : Kinds) (c : Claims) (w : WireKind) (p : Place) (b : Bool) → read_at (everywhere ks c) (record { wire = w; place = p; buffered = b }) ≡ ks
 same_kinds ks c Json place.Value b = refl

@@ -15,7 +15,6 @@ use Rattle.sw_tree.specs.NumberLaws.{IsInRange}
 use Rattle.sw_tree.specs.Steps.{bind_ok}
 use Rattle.sw_tree.specs.Tree.{Tree, int_at}
 use Rattle.sw_tree.specs.declared.mode.Mode.{Mode}
-use Rattle.sw_tree.specs.declared.fail.DeError.{DeError}
 use Rattle.sw_tree.specs.declared.fail.DeError.TheVariants as fail
 use Rattle.sw_elem.specs.Equations.{LawfulReading, own_spot, own_spot-inside}
 use Rattle.sw_elem.specs.Integer.{IsWide, IsInteger}

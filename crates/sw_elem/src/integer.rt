@@ -9,14 +9,13 @@ ghost use Rattle.sw_elem.specs.Equations.{own_spot};
 ghost use Rattle.sw_elem.specs.Numbers.{number_reads};
 ghost use Rattle.sw_elem.specs.Text.{IsParsedFreely};
 
-use crate::classes;
 use crate::digits::whole_in;
 use crate::element::Element;
-use crate::facts;
 use crate::numbers::whole_at;
 use crate::refuse::refusal_at;
 use crate::serialize::{Deserialize, Serialize};
 use crate::text::{ParseFail, TextForm};
+use crate::{classes, facts};
 use std::alloc::{AllocError, Global};
 use sw_check::class::TextClass;
 use sw_check::facts::Facts;

@@ -25,7 +25,7 @@ use Rattle.sw_check.specs.SoundForms.{sound-vec}
 use Rattle.sw_check.specs.declared.rule.Rule.{Rule}
 use Rattle.sw_check.specs.declared.rule.Rule.TheVariants.{S1, S2, S3, S4, S5, S6, S7, S8}
 use Rattle.sw_elem.specs.Equations.{Writes, Reads, Spots, Skips, LawfulReading}
-use Rattle.sw_elem.specs.Laws.{Norm, HasImages, ReadsBack, NeverKey, IsUnmarked, IsExact, WritesNodes, NormsWithin}
+use Rattle.sw_elem.specs.Statements.{Norm, HasImages, ReadsBack, NeverKey, IsUnmarked, IsExact, WritesNodes, NormsWithin}
 use Rattle.sw_elem.specs.Lawful.{Lawful}
 use Rattle.sw_core.specs.Plans.{children}
 use Rattle.sw_core.specs.Rows.{Reader, reader, each_by}
