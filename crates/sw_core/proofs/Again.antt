@@ -17,7 +17,7 @@ use Rattle.sw_check.specs.Form.{Form}
 use Rattle.sw_check.specs.Grade.{grade}
 use Rattle.sw_check.specs.declared.grade.Grade.TheVariants.{Exact}
 use Rattle.sw_elem.specs.Equations.{Writes, Reads, Spots, Skips, LawfulReading}
-use Rattle.sw_elem.specs.Laws.{Norm}
+use Rattle.sw_elem.specs.Statements.{Norm}
 use Rattle.sw_elem.specs.Lawful.{Lawful}
 use Rattle.std.specs.Result.{IfOk, IsErrAnd}
 use Rattle.sw_elem.specs.Answers.{IsRead}

@@ -10,7 +10,7 @@ use Rattle.sw_tree.specs.declared.mode.WireKind.{WireKind}
 use Rattle.sw_tree.specs.declared.mode.Place.TheVariants.{Value}
 use Rattle.sw_tree.specs.declared.fail.SerError.TheVariants.{Key}
 use Rattle.sw_elem.specs.Equations.{Writes, Reads}
-use Rattle.sw_elem.specs.Laws.{Norm}
+use Rattle.sw_elem.specs.Statements.{Norm}
 
 -- the bytes spell the image of the tree that is written for the value
 pub record SpellsImage (writes : Writes) (w : WireKind) (spelled : Spelled) (bytes : List ℕ) (v : Meaning) : Type 0 where

@@ -11,7 +11,7 @@ use Rattle.sw_tree.specs.Tree as node
 use Rattle.sw_tree.specs.declared.fail.SerError.{SerError}
 use Rattle.sw_tree.specs.declared.fail.DeError.TheVariants as fail
 use Rattle.sw_elem.specs.Equations.{Writes, Reads, Spots, Skips}
-use Rattle.sw_elem.specs.Laws.{Norm}
+use Rattle.sw_elem.specs.Statements.{Norm}
 use Rattle.sw_core.specs.Plans.{Plans, refused, plan_reads, plan_spot, plan_skips}
 use Rattle.sw_core.specs.Rows.{reader, turns_by}
 

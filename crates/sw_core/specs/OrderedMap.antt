@@ -5,7 +5,7 @@ use Rattle.sw_tree.specs.Ranks.{Order}
 use Rattle.sw_tree.specs.Sorted.{Join, sorted, by_first, value_replaced}
 use Rattle.sw_tree.specs.Steps.{bind}
 use Rattle.sw_elem.specs.Equations.{Reads, Spots, Skips}
-use Rattle.sw_elem.specs.Laws.{Norm}
+use Rattle.sw_elem.specs.Statements.{Norm}
 use Rattle.sw_elem.specs.Lawful.{same_norm}
 use Rattle.sw_core.specs.Entries.{entries_reads, entries_norm}
 

@@ -89,7 +89,7 @@ pub trait DeserializeAs<T: Meant>: Sized {
 pub trait Adapter<T: Meant>: SerializeAs<T> + DeserializeAs<T> {
     ghost use Rattle.std.specs.Prelude.{◌≡◌, IfOk};
     ghost use Rattle.sw_check.specs.Form.{Form};
-    ghost use Rattle.sw_elem.specs.Laws.{Norm};
+    ghost use Rattle.sw_elem.specs.Statements.{Norm};
     ghost use Rattle.sw_elem.specs.Lawful.{Lawful};
 
     ghost expr: { Form };

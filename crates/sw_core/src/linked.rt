@@ -1,4 +1,4 @@
-#![tactic(auto, using(crate::proofs::Logs::gains))]
+#![tactic(auto, using(sw_tree::specs::Laws::Logs::gains))]
 
 ghost use Rattle.std.specs.Prelude.{◌≡◌, IfOk};
 

@@ -1,70 +1,39 @@
 -- What std's parse of a whole number says, in the words of a text form.
-use Rattle.std.specs.Prelude.{ℕ, zero, suc, ◌-ℤ◌, ◌<◌, ◌≤◌, ◌^◌, ◌≡◌, ◌&&◌, ℤ, List, ◌∷◌, Bool, true, false, Some, None, FitsSigned, cond, pos, neg_ℤ, slice_index}
+use Rattle.std.specs.Prelude.{ℕ, zero, suc, ◌-ℤ◌, ◌<◌, ◌^◌, ◌≡◌, ℤ, List, ◌∷◌, Bool, true, false, if◌then◌else◌, Some, None, FitsSigned, pos, neg_ℤ, slice_index}
 use Rattle.std.proofs.Common.{refl, sym, subst, arith, ap, ◌∙◌, rules, eqb, inl, inr}
-use Rattle.std.specs.Bool.{Decides}
 use Rattle.std.specs.List.{list_all}
-use Rattle.std.specs.Int.Signed.{mag}
 use Rattle.std.specs.Int.{w128}
 use Rattle.std.specs.Str.Parse.{IsNumeral, digits_value, without_leading_plus, without_leading_sign, signed_digits_value}
 use Rattle.std.proofs.lemmas.Bool.Decides.{eqb_tells}
 use Rattle.std.proofs.lemmas.Int.{to_z-of_z, ints}
 use mir.Val.{to_z, of_z}
 use Rattle.std.proofs.lemmas.Str.Parse.{IsNumeralModel, numerals_by_fold, not_in_digits, without_leading_plus_none, digits_value_short}
-use Rattle.sw_tree.specs.Meaning.{number}
 use Rattle.sw_tree.specs.Number.{is_digit, value_from, value_of, AreFew}
-use Rattle.sw_tree.specs.Meant.{unsigned_meaning}
-use Rattle.sw_elem.specs.Numbers.{is_within}
-use Rattle.sw_elem.specs.Decimal.{is_numeral, is_number_below, unsigned_parses, signed_parses, IsSignedNumeral}
-use Rattle.sw_elem.specs.DecimalLaws.{is_number_below-decides, is_numeral-decides, is_within-decides}
+use Rattle.sw_elem.specs.Integer.{IsWide}
+use Rattle.sw_elem.specs.Decimal.{is_numeral, decimal_value, IsSpelled, IsSignedNumeral}
+use Rattle.sw_elem.specs.DecimalLaws.{is_numeral-decides, unsigned_value}
 
-false_where_not : {P : Type 0} (b : Bool) → Decides b P → ¬ P → b ≡ false
-false_where_not true d h = absurd (h (d.0 refl))
-false_where_not false d h = refl
-
-and_false : (a b : Bool) → b ≡ false → (a && b) ≡ false
-and_false true b h = h
-and_false false b h = refl
-
-pub unsigned_parses-Some : (limit n : ℕ) (s : List ℕ) → IsNumeral 10 (without_leading_plus s) → n ≡ digits_value 10 (without_leading_plus s) → n < limit → unsigned_parses limit s ≡ Some (unsigned_meaning n)
-unfolding unsigned_parses
-unsigned_parses-Some limit n s h e w =
-    let test : is_number_below limit (without_leading_plus s) ≡ true = (is_number_below-decides limit (without_leading_plus s)).1 (h, rw (← e) w) in
-    rw (test, e) refl
-
-pub unsigned_parses-None : (limit : ℕ) (s : List ℕ) → ¬ (IsNumeral 10 (without_leading_plus s) × (digits_value 10 (without_leading_plus s) < limit)) → unsigned_parses limit s ≡ None
-unfolding unsigned_parses
-unsigned_parses-None limit s h =
-    let ds = without_leading_plus s in
-    let test : is_number_below limit ds ≡ false = false_where_not (is_number_below limit ds) (is_number_below-decides limit ds) h in
-    rw test refl
-
-pub signed_parses-Some : (limit : ℕ) (n : ℤ) (s : List ℕ) → IsNumeral 10 (without_leading_sign s) → n ≡ signed_digits_value 10 s → is_within limit n ≡ true → signed_parses limit s ≡ Some (number n)
-unfolding signed_parses
-signed_parses-Some limit n s h e w =
-    let digits : is_numeral (without_leading_sign s) ≡ true = (is_numeral-decides (without_leading_sign s)).1 h in
-    rw (digits, sym e, w) refl
-
-pub signed_parses-beyond : (limit : ℕ) (n : ℤ) (s : List ℕ) → n ≡ signed_digits_value 10 s → is_within limit n ≡ false → signed_parses limit s ≡ None
-unfolding signed_parses
-signed_parses-beyond limit n s e w =
-    let v = signed_digits_value 10 s in
-    let test : (is_numeral (without_leading_sign s) && is_within limit v) ≡ false = and_false (is_numeral (without_leading_sign s)) (is_within limit v) (subst (λ z. is_within limit z ≡ false) e w) in
-    ap (λ b. cond b (Some (number v)) None) test
-
-pub signed_parses-None : (limit : ℕ) (s : List ℕ) → limit ≤ 2 ^ 127 → ¬ (IsNumeral 10 (without_leading_sign s) × FitsSigned w128 (signed_digits_value 10 s)) → signed_parses limit s ≡ None
-unfolding signed_parses
-signed_parses-None limit s most h =
-    let ds = without_leading_sign s in
-    let v = signed_digits_value 10 s in
-    let test : (is_numeral ds && is_within limit v) ≡ false = by (is_numeral ds) (is_within limit v) refl refl in
-    ap (λ b. cond b (Some (number v)) None) test
+-- no digits of which 128 bits hold the number
+pub unsigned_none : (s : List ℕ) → ¬ (IsNumeral 10 (without_leading_plus s) × (digits_value 10 (without_leading_plus s) < 2 ^ 128)) → IsSpelled false None (decimal_value false s)
+unfolding decimal_value
+unsigned_none s h n e w = by (is_numeral (without_leading_plus s)) refl e w
   where
-    by : (a b : Bool) → is_numeral (without_leading_sign s) ≡ a → is_within limit (signed_digits_value 10 s) ≡ b → (a && b) ≡ false
-    by true true p q =
-        let fits : mag (signed_digits_value 10 s) < limit = (is_within-decides limit (signed_digits_value 10 s)).0 q in
-        absurd (h ((is_numeral-decides (without_leading_sign s)).0 p, record { sfits = omega arith }))
-    by true false p q = refl
-    by false b p q = refl
+    by : (b : Bool) → is_numeral (without_leading_plus s) ≡ b → (if b then Some (pos (digits_value 10 (without_leading_plus s))) else None) ≡ Some n → IsWide false n → ⊥
+    by true p q w =
+        let same : pos (digits_value 10 (without_leading_plus s)) ≡ n = cc in
+        let small : IsWide false (pos (digits_value 10 (without_leading_plus s))) = subst (IsWide false) (sym same) w in
+        h ((is_numeral-decides (without_leading_plus s)).0 p, small)
+    by false p q w = absurd (cc)
+
+pub signed_none : (s : List ℕ) → ¬ (IsNumeral 10 (without_leading_sign s) × FitsSigned w128 (signed_digits_value 10 s)) → IsSpelled true None (decimal_value true s)
+unfolding decimal_value
+signed_none s h n e w = by (is_numeral (without_leading_sign s)) refl e w
+  where
+    by : (b : Bool) → is_numeral (without_leading_sign s) ≡ b → (if b then Some (signed_digits_value 10 s) else None) ≡ Some n → FitsSigned w128 n → ⊥
+    by true p q w =
+        let same : signed_digits_value 10 s ≡ n = cc in
+        h ((is_numeral-decides (without_leading_sign s)).0 p, subst (FitsSigned w128) (sym same) w)
+    by false p q w = absurd (cc)
 
 -- ---- digits by the words of a number's spelling
 
@@ -88,15 +57,10 @@ few-plain ds h = without_leading_plus_none ds (not_in_digits spelled ds 43 h.dig
 few-not_minus : (ds : List ℕ) → AreFew ds → slice_index ds 0 ≡ 45 → ⊥
 few-not_minus ds h = not_in_digits spelled ds 45 h.digits (λ r. omega arith) 0 h.some
 
-pub few-Some : (limit n : ℕ) (s : List ℕ) → AreFew s → n ≡ value_of s → n < limit → unsigned_parses limit s ≡ Some (unsigned_meaning n)
-few-Some limit n s h e w =
+pub few-value_of : (n : ℕ) (s : List ℕ) → AreFew s → n ≡ value_of s → decimal_value false s ≡ Some (pos n)
+few-value_of n s h e =
     let plain = sym (few-plain s h) in
-    unsigned_parses-Some limit n s (subst (IsNumeral 10) plain (few-numeral s h)) (e ∙ few-value s h ∙ ap (digits_value 10) plain) w
-
-pub few-beyond : (limit n : ℕ) (s : List ℕ) → AreFew s → n ≡ value_of s → limit ≤ n → unsigned_parses limit s ≡ None
-few-beyond limit n s h e w =
-    let is : n ≡ digits_value 10 (without_leading_plus s) = e ∙ few-value s h ∙ ap (digits_value 10) (sym (few-plain s h)) in
-    unsigned_parses-None limit s (λ k. omega (arith, k.1, is, w))
+    unsigned_value n s (subst (IsNumeral 10) plain (few-numeral s h)) (e ∙ few-value s h ∙ ap (digits_value 10) plain)
 
 -- ---- the same behind a minus or not, as 128 bits hold it
 
@@ -113,7 +77,7 @@ fits_negative (suc k) h = record { sfits = omega (arith, h) }
 from_zero : (n : ℕ) → (pos 0 -ℤ pos n) ≡ neg_ℤ (pos n)
 from_zero n = omega (arith, ints)
 
-held : (z w : ℤ) → z ≡ w → FitsSigned w128 w → to_z w128 (of_z w128 z) ≡ w
+pub held : (z w : ℤ) → z ≡ w → FitsSigned w128 w → to_z w128 (of_z w128 z) ≡ w
 held z w e h = to_z-of_z w128 z (subst (FitsSigned w128) (sym e) h) ∙ e
 
 pub held-numeral : (s : List ℕ) (z : ℤ) → IsSignedNumeral s z → IsSignedNumeral s (to_z w128 (of_z w128 z))

@@ -23,8 +23,8 @@ use Rattle.sw_check.specs.Facts.{claims_at}
 use Rattle.sw_elem.specs.Facts.{all_but_bytes, stands, any_facts}
 use Rattle.sw_tree.specs.Foreign.{is_text, is_plain, are_plain, are_plain_keyed, Foreign, further, foreign_key, foreign, foreign_items, foreign_entries}
 use Rattle.sw_elem.specs.Foreign.{any_writes, taken, any_reads, number_of, any_spot, IsAny}
-use Rattle.sw_tree.specs.ForeignLaws.{plain_foreign}
-use Rattle.sw_elem.specs.Laws.{HasSpotKinds}
+use Rattle.sw_tree.specs.ForeignLaws.{plain_foreign, none_foreign}
+use Rattle.sw_elem.specs.Statements.{HasSpotKinds}
 use Rattle.sw_elem.specs.Lawful.{LawfulLeaf, same_norm}
 use Rattle.sw_elem.specs.Leaf.{IsBack, IsLeaf, everywhere_read, keeps_leaf}
 
@@ -168,14 +168,12 @@ unfolding any_node
 any_nodes (meaning.tree t) h = h.1
 any_nodes _ h = absurd h
 
+none_taken : (t : Tree) (o : Option Foreign) (v : Meaning) → taken t o ≡ Ok v → o ≡ None
+none_taken t None v p = refl
+none_taken t (Some f) v p = absurd (cc)
+
 any_read : (t : Tree) (v : Meaning) → taken t (foreign t) ≡ Ok v → has all_but_bytes (kind_of t) ≡ true
-any_read (bytes s) v p = absurd (cc)
-any_read null v p = refl
-any_read (truth b) v p = refl
-any_read (int n) v p = refl
-any_read (text s) v p = refl
-any_read (list ts) v p = refl
-any_read (map es) v p = refl
+any_read t v p = any_kind t (none_foreign t (none_taken t (foreign t) v p))
 
 any_leaf : IsLeaf IsAny any_writes any_reads any_spot any_facts any_node
 any_leaf = record {

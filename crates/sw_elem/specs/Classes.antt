@@ -1,5 +1,5 @@
 -- The classes of the texts that the types show.
-use Rattle.std.specs.Prelude.{◌-◌, ◌^◌, Bool, true, codes}
+use Rattle.std.specs.Prelude.{◌-◌, ◌^◌, Bool, true, false, codes}
 use Rattle.sw_check.specs.TextClass.{class_of}
 use Rattle.sw_check.specs.declared.class.TextClass.{TextClass}
 
@@ -10,6 +10,11 @@ digit_class = class_of (codes "0123456789")
 -- the digits and the minus
 abbrev pub signed_class : TextClass
 signed_class = class_of (codes "-0123456789")
+
+-- what a number is shown by, where it has a sign and where it has none
+abbrev pub decimal_class : Bool → TextClass
+decimal_class true = signed_class
+decimal_class false = digit_class
 
 -- the letters of `true` and `false`
 abbrev pub truth_class : TextClass

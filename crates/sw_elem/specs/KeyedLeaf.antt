@@ -1,16 +1,12 @@
 -- The laws of whole numbers, at a type of any range, and of truth values.
-use Rattle.std.specs.Prelude.{◌≡◌, ℕ, ◌<◌, ◌≤◌, ◌^◌, ℤ, pos, negsuc, List, Bool, true, false, if◌then◌else◌, Option, Some, None, Ok, Err, Result}
+use Rattle.std.specs.Prelude.{◌≡◌, ℕ, ℤ, List, Bool, true, false, if◌then◌else◌, Option, Some, None, Ok, Err, Result}
 use Rattle.std.proofs.Common.{refl, ap, sym, ◌∙◌, subst, arith}
 use Rattle.std.specs.Option.{ok_or, option_or, option_and_then}
 use Rattle.std.specs.Fmt.{signed_decimal}
-use mir.Val.{hbits}
-use Rattle.std.specs.Int.{Width}
-use Rattle.std.proofs.lemmas.Bool.Decides.{Decides-ltb}
-use Rattle.sw_tree.specs.Laws.Nodes.{own_kind}
 use Rattle.sw_tree.specs.Image.{bool_text}
 use Rattle.sw_tree.specs.Kinds.{has}
 use Rattle.sw_tree.specs.Meaning.{Meaning, number, truth}
-use Rattle.sw_tree.specs.Meant.{IsBelow, IsSigned, IsTruth}
+use Rattle.sw_tree.specs.Meant.{IsTruth}
 use Rattle.sw_tree.specs.Number.{key_number}
 use Rattle.sw_tree.specs.NumberLaws.{IsInRange, key_number-signed_decimal}
 use Rattle.sw_tree.specs.Proper.{IsNodeTree}
@@ -27,50 +23,20 @@ use Rattle.sw_tree.specs.declared.mode.Kind.TheVariants as kind
 use Rattle.sw_tree.specs.declared.fail.DeError.{DeError}
 use Rattle.sw_tree.specs.declared.fail.DeError.TheVariants as fail
 use Rattle.sw_check.specs.Facts.{claims_at, read_at}
-use Rattle.sw_elem.specs.DecimalLaws.{is_within-decides, half_most}
 use Rattle.sw_elem.specs.Equations.{own_spot}
 use Rattle.sw_check.specs.declared.grade.Grade.{Grade}
 use Rattle.sw_check.specs.declared.grade.Grade.TheVariants.{Exact}
 use Rattle.sw_elem.specs.Facts.{only, either, stands, keyed, number_facts, truth_facts}
-use Rattle.sw_elem.specs.KeyPlace.{is_plain_key, key_text, keyed_reads}
-use Rattle.sw_elem.specs.Laws.{HasSpotKinds}
+use Rattle.sw_elem.specs.KeyPlace.{is_plain_key, key_text, keyed_at, keyed_reads}
 use Rattle.sw_elem.specs.Lawful.{LawfulLeaf, same_norm}
 use Rattle.sw_elem.specs.Leaf.{IsBack, IsLeaf, keeps_leaf}
-use Rattle.sw_elem.specs.Numbers.{number_writes, is_below, is_within, ranged, number_reads}
+use Rattle.sw_elem.specs.Integer.{IsInteger}
+use Rattle.sw_elem.specs.Numbers.{number_writes, ranged, ranged_or_invalid, number_reads}
+use Rattle.sw_elem.specs.NumberLaws.{wide_range}
+use Rattle.sw_elem.specs.TakesLaws.{read_taken, takes_spots}
 use Rattle.sw_elem.specs.Truths.{truth_named, truth_writes, truth_reads}
 
 -- ---- the kinds that are read
-
-only_has : (k : Kind) → has (only k) k ≡ true
-only_has kind.Null = refl
-only_has kind.Bool = refl
-only_has kind.Int = refl
-only_has kind.Text = refl
-only_has kind.Bytes = refl
-only_has kind.List = refl
-only_has kind.Map = refl
-
-or_text_has : (k : Kind) → has (either k kind.Text) k ≡ true
-or_text_has kind.Null = refl
-or_text_has kind.Bool = refl
-or_text_has kind.Int = refl
-or_text_has kind.Text = refl
-or_text_has kind.Bytes = refl
-or_text_has kind.List = refl
-or_text_has kind.Map = refl
-
-own_read : (k : Kind) (g : Grade) (w : WireKind) (p : Place) (b : Bool) → has (read_at (keyed k g) (record { wire = w; place = p; buffered = b })) k ≡ true
-own_read k g Json Value b = only_has k
-own_read k g Json Key false = or_text_has k
-own_read k g Json Key true = only_has k
-own_read k g Compact p b = only_has k
-
-text_read : (k : Kind) (g : Grade) (w : WireKind) (p : Place) (b : Bool) → is_plain_key (record { wire = w; place = p; buffered = b }) ≡ true → has (read_at (keyed k g) (record { wire = w; place = p; buffered = b })) kind.Text ≡ true
-text_read k g Json Key false h = refl
-text_read k g Json Key true h = absurd (cc)
-text_read k g Json Value b h = absurd (cc)
-text_read k g Compact Value b h = absurd (cc)
-text_read k g Compact Key b h = absurd (cc)
 
 plain_text : (b : Bool) (s q : List ℕ) → (if b then Some s else None) ≡ Some q → b ≡ true
 plain_text true s q h = refl
@@ -81,23 +47,29 @@ key_texted : (m : Mode) (t : Tree) (q : List ℕ) → key_text m t ≡ Some q �
 key_texted m (node.text s) q h = (refl, plain_text (is_plain_key m) s q h)
 key_texted m _ q h = absurd (cc)
 
-module _ {A : Type 0} (own : Tree → Option A) (named : List ℕ → Option A) (k : Kind) (grade : Grade) (is : (t : Tree) (a : A) → own t ≡ Some a → kind_of t ≡ k) (g : A → Result Meaning DeError) where
-  read_kind : (m : Mode) (t : Tree) (a : Option A) (s : Option (List ℕ)) (e : DeError) (v : Meaning) →
-      own t ≡ a → key_text m t ≡ s → bind (ok_or (option_or a (option_and_then named s)) e) g ≡ Ok v → has (read_at (keyed k grade) m) (kind_of t) ≡ true
-  read_kind m t (Some a) s e v h q p = ap (has (read_at (keyed k grade) m)) (is t a h) ∙ own_read k grade m.wire m.place m.buffered
-  read_kind m t None (Some s) e v h q p = let c = key_texted m t s q in ap (has (read_at (keyed k grade) m)) c.0 ∙ text_read k grade m.wire m.place m.buffered c.1
-  read_kind m t None None e v h q p = absurd (cc)
+text_read : (k : Kind) (g : Grade) (w : WireKind) (p : Place) (b : Bool) → is_plain_key (record { wire = w; place = p; buffered = b }) ≡ true → has (read_at (keyed k g) (record { wire = w; place = p; buffered = b })) kind.Text ≡ true
+text_read k g Json Key false h = refl
+text_read k g Json Key true h = absurd (cc)
+text_read k g Json Value b h = absurd (cc)
+text_read k g Compact Value b h = absurd (cc)
+text_read k g Compact Key b h = absurd (cc)
 
-  pub keyed_read : (m : Mode) (t : Tree) (v : Meaning) → bind (keyed_reads own named m t) g ≡ Ok v → has (read_at (keyed k grade) m) (kind_of t) ≡ true
-  keyed_read m t v p = read_kind m t (own t) (key_text m t) (fail.InvalidType (kind_of t)) v refl refl p
+module _ (k : Kind) (grade : Grade) (only_has : has (only k) k ≡ true) (either_has : has (either k kind.Text) k ≡ true) where
+  own_read : (w : WireKind) (p : Place) (b : Bool) → has (read_at (keyed k grade) (record { wire = w; place = p; buffered = b })) k ≡ true
+  own_read Json Value b = only_has
+  own_read Json Key false = either_has
+  own_read Json Key true = only_has
+  own_read Compact p b = only_has
 
-module _ {A : Type 0} (g : A → Result Meaning DeError) (never : (a : A) (k : Kind) → g a ≡ Err (fail.InvalidType k) → ⊥) where
-  refused_kind : (t : Tree) (k : Kind) (a : Option A) → bind (ok_or a (fail.InvalidType (kind_of t))) g ≡ Err (fail.InvalidType k) → kind_of t ≡ k
-  refused_kind t k (Some a) p = absurd (never a k p)
-  refused_kind t k None p = cc
+  module _ {A : Type 0} (own : Tree → Option A) (named : List ℕ → Option A) (is : (t : Tree) (x : A) → own t ≡ Some x → kind_of t ≡ k) where
+    by_parts : (m : Mode) (t : Tree) (o : Option A) (s : Option (List ℕ)) (x : A) →
+        own t ≡ o → key_text m t ≡ s → option_or o (option_and_then named s) ≡ Some x → has (read_at (keyed k grade) m) (kind_of t) ≡ true
+    by_parts m t (Some y) s x h q p = ap (has (read_at (keyed k grade) m)) (is t y h) ∙ own_read m.wire m.place m.buffered
+    by_parts m t None (Some s) x h q p = let c = key_texted m t s q in ap (has (read_at (keyed k grade) m)) c.0 ∙ text_read k grade m.wire m.place m.buffered c.1
+    by_parts m t None None x h q p = absurd (cc)
 
-  pub keyed_spots : (own : Tree → Option A) (named : List ℕ → Option A) (m : Mode) → HasSpotKinds (λ n t. bind (keyed_reads own named n t) g) own_spot m
-  keyed_spots own named m t k p = own_kind t k (refused_kind t k (option_or (own t) (option_and_then named (key_text m t))) p)
+    keyed_read : (g : A → Result Meaning DeError) (m : Mode) (t : Tree) (v : Meaning) → bind (keyed_reads own named m t) g ≡ Ok v → has (read_at (keyed k grade) m) (kind_of t) ≡ true
+    keyed_read g m t v p = let q = read_taken (keyed_at own named m) g t v p in by_parts m t (own t) (key_text m t) q.0 refl refl q.1
 
 -- ---- whole numbers
 
@@ -114,16 +86,16 @@ int_kind : (t : Tree) (n : ℤ) → int_at t ≡ Some n → kind_of t ≡ kind.I
 int_kind (node.int n) k h = refl
 int_kind _ k h = absurd (cc)
 
-ranged_never : (b : Bool) (v : Meaning) (k : Kind) → (if b then Ok v else Err fail.InvalidValue) ≡ Err (fail.InvalidType k) → ⊥
-ranged_never true v k p = cc
-ranged_never false v k p = cc
+ranged_never : (o : Option Meaning) (k : Kind) → ok_or o fail.InvalidValue ≡ Err (fail.InvalidType k) → ⊥
+ranged_never (Some v) k p = cc
+ranged_never None k p = cc
 
 module _ (fits : ℤ → Bool) (n : ℤ) (inside : fits n ≡ true) (r : IsInRange n) where
-  in_range : ranged fits n ≡ Ok (number n)
+  in_range : ranged_or_invalid fits n ≡ Ok (number n)
   in_range = rw inside refl
 
-  spelled : bind (ok_or (option_or None (key_number (signed_decimal n))) (fail.InvalidType kind.Text)) (ranged fits) ≡ Ok (number n)
-  spelled = ap (λ (o : Option ℤ). bind (ok_or (option_or None o) (fail.InvalidType kind.Text)) (ranged fits)) (key_number-signed_decimal n r) ∙ in_range
+  spelled : bind (ok_or (option_or None (key_number (signed_decimal n))) (fail.InvalidType kind.Text)) (ranged_or_invalid fits) ≡ Ok (number n)
+  spelled = ap (λ (o : Option ℤ). bind (ok_or (option_or None o) (fail.InvalidType kind.Text)) (ranged_or_invalid fits)) (key_number-signed_decimal n r) ∙ in_range
 
   number_claimed : (w : WireKind) (p : Place) (b : Bool) → claims_at (stands true false) (record { wire = w; place = p; buffered = b }) ≡ true →
       IsBack (number_reads fits) (record { wire = w; place = p; buffered = b }) (node.int n) (number n)
@@ -132,26 +104,23 @@ module _ (fits : ℤ → Bool) (n : ℤ) (inside : fits n ≡ true) (r : IsInRan
   number_claimed Json Key false h = (node.text (signed_decimal n), refl, spelled)
   number_claimed Json Key true h = absurd (cc)
 
--- every meaning is a number that fits the type, and a tree
-abbrev pub AreNumbers : (ℤ → Bool) → (Meaning → Type 0) → Type 0
-AreNumbers fits P = (v : Meaning) → P v → (n : ℤ) × (v ≡ number n) × (fits n ≡ true) × IsInRange n
-
-module _ (fits : ℤ → Bool) (P : Meaning → Type 0) (are : AreNumbers fits P) where
+module _ (signed : Bool) (fits : ℤ → Bool) (P : Meaning → Type 0) (law : IsInteger signed fits P) where
   number_back : (m : Mode) → claims_at (stands true false) m ≡ true → (v : Meaning) → P v → IsBack (number_reads fits) m (number_node v) v
   unfolding number_node
   number_back m c v h =
-      let n = are v h in
-      subst (λ (u : Meaning). IsBack (number_reads fits) m (number_node u) u) (sym n.1) (number_claimed fits n.0 n.2 n.3 m.wire m.place m.buffered c)
+      let n = law.numbers v h in
+      let r = wide_range signed n.0 (law.wide n.0 n.2) in
+      subst (λ (u : Meaning). IsBack (number_reads fits) m (number_node u) u) (sym n.1) (number_claimed fits n.0 n.2 r m.wire m.place m.buffered c)
 
   number_kind : (v : Meaning) → P v → has (only kind.Int) (kind_of (number_node v)) ≡ true
   unfolding number_node
-  number_kind v h = let n = are v h in ap (λ (u : Meaning). has (only kind.Int) (kind_of (number_node u))) n.1
+  number_kind v h = let n = law.numbers v h in ap (λ (u : Meaning). has (only kind.Int) (kind_of (number_node u))) n.1
 
   number_nodes : (v : Meaning) → P v → IsNodeTree (number_node v)
   unfolding number_node
   number_nodes v h =
-      let n = are v h in
-      let is : IsNodeTree (node.int n.0) = record { proper = n.3; shallow = omega arith } in
+      let n = law.numbers v h in
+      let is : IsNodeTree (node.int n.0) = record { proper = wide_range signed n.0 (law.wide n.0 n.2); shallow = omega arith } in
       subst (λ (u : Meaning). IsNodeTree (number_node u)) (sym n.1) is
 
   number_leaf : IsLeaf P number_writes (number_reads fits) own_spot number_facts number_node
@@ -160,28 +129,13 @@ module _ (fits : ℤ → Bool) (P : Meaning → Type 0) (are : AreNumbers fits P
     back = number_back;
     written = number_kind;
     nodes = number_nodes;
-    read = λ m t v p. keyed_read int_at key_number kind.Int Exact int_kind (ranged fits) m t v p;
-    spots = λ m. keyed_spots (ranged fits) (λ n k p. ranged_never (fits n) (number n) k p) int_at key_number m;
+    read = λ m t v p. keyed_read kind.Int Exact refl refl int_at key_number int_kind (ranged_or_invalid fits) m t v p;
+    spots = takes_spots (keyed_at int_at key_number) (ranged_or_invalid fits) (λ n k p. ranged_never (ranged fits n) k p);
   }
 
   -- numbers of any range keep the laws of a leaf
   pub number_keeps : LawfulLeaf P number_writes (number_reads fits) own_spot number_facts same_norm (Unit {0})
   number_keeps = keeps_leaf P number_writes (number_reads fits) own_spot number_facts number_node number_leaf
-
-below_are : (limit : ℕ) → limit ≤ 2 ^ 128 → AreNumbers (is_below limit) (IsBelow limit)
-below_are limit most (number (pos n)) h = (pos n, refl, (Decides-ltb n limit).1 h, omega arith)
-below_are limit most _ h = absurd h
-
-pub unsigned_keeps : (limit : ℕ) → limit ≤ 2 ^ 128 → LawfulLeaf (IsBelow limit) number_writes (number_reads (is_below limit)) own_spot number_facts same_norm (Unit {0})
-unsigned_keeps limit most = number_keeps (is_below limit) (IsBelow limit) (below_are limit most)
-
-signed_are : (w : Width) → AreNumbers (is_within (2 ^ hbits w)) (IsSigned w)
-signed_are w (number (pos n)) h = let e : n < 2 ^ hbits w = h.sfits in (pos n, refl, (is_within-decides (2 ^ hbits w) (pos n)).1 e, omega (arith, half_most w))
-signed_are w (number (negsuc n)) h = let e : n < 2 ^ hbits w = h.sfits in (negsuc n, refl, (is_within-decides (2 ^ hbits w) (negsuc n)).1 e, omega (arith, half_most w))
-signed_are w _ h = absurd h
-
-pub signed_keeps : (w : Width) → LawfulLeaf (IsSigned w) number_writes (number_reads (is_within (2 ^ hbits w))) own_spot number_facts same_norm (Unit {0})
-signed_keeps w = number_keeps (is_within (2 ^ hbits w)) (IsSigned w) (signed_are w)
 
 -- ---- truth values
 
@@ -227,8 +181,8 @@ truth_leaf = record {
   back = truth_back;
   written = truth_is;
   nodes = truth_nodes;
-  read = λ m t v p. keyed_read truth_at truth_named kind.Bool Exact truth_kind (λ b. Ok (truth b)) m t v p;
-  spots = λ m. keyed_spots (λ (b : Bool). Ok (truth b)) (λ b k p. cc) truth_at truth_named m;
+  read = λ m t v p. keyed_read kind.Bool Exact refl refl truth_at truth_named truth_kind (λ b. Ok (truth b)) m t v p;
+  spots = takes_spots (keyed_at truth_at truth_named) (λ (b : Bool). Ok (truth b)) (λ b k p. cc);
 }
 
 pub truth_keeps : LawfulLeaf IsTruth truth_writes truth_reads own_spot truth_facts same_norm (Unit {0})

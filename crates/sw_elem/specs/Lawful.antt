@@ -12,7 +12,7 @@ use Rattle.sw_check.specs.Kinds.{kinds_written, kinds_read}
 use Rattle.sw_check.specs.Grade.{grade}
 use Rattle.sw_check.specs.declared.grade.Grade.TheVariants.{Exact}
 use Rattle.sw_elem.specs.Equations.{Writes, Reads, Spots, Skips}
-use Rattle.sw_elem.specs.Laws.{Norm, HasImages, ReadsBack, NeverKey, IsUnmarked, IsExact, HasSpotKinds, HasNoteKinds, WritesNodes, NormsWithin}
+use Rattle.sw_elem.specs.Statements.{Norm, HasImages, ReadsBack, NeverKey, IsUnmarked, IsExact, HasSpotKinds, HasNoteKinds, WritesNodes, NormsWithin}
 
 -- that `P` are the meanings of the values, and that the laws marked so hold under what is assumed
 pub record Lawful (P : Meaning → Type 0) (writes : Writes) (reads : Reads) (spot : Spots) (skips : Skips) (expr : Form) (norm : Norm) (assumes : Type 0) : Type 0 where

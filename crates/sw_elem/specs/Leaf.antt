@@ -21,7 +21,7 @@ use Rattle.sw_check.specs.declared.facts.Facts.{Facts}
 use Rattle.sw_check.specs.declared.rule.Rule.TheVariants.{S1}
 use Rattle.sw_elem.specs.Equations.{Writes, Reads, Spots, Skips}
 use Rattle.sw_elem.specs.Facts.{everywhere}
-use Rattle.sw_elem.specs.Laws.{Norm, HasSpotKinds}
+use Rattle.sw_elem.specs.Statements.{Norm, HasSpotKinds}
 use Rattle.sw_elem.specs.Lawful.{Lawful, LawfulLeaf, same_norm}
 
 -- the tree has an image in the mode, which is read as that meaning

@@ -1,5 +1,6 @@
 -- Whole numbers by themselves.
-use Rattle.std.specs.Prelude.{ℕ, ℤ, pos, negsuc, Bool, false, nat_lt, if◌then◌else◌, Result, Ok, Err}
+use Rattle.std.specs.Prelude.{ℕ, ℤ, pos, negsuc, Bool, false, nat_lt, if◌then◌else◌, Option, Some, None, Result, Ok}
+use Rattle.std.specs.Option.{ok_or}
 use Rattle.sw_tree.specs.Meaning.{Meaning, number}
 use Rattle.sw_tree.specs.Number.{key_number}
 use Rattle.sw_tree.specs.Steps.{bind}
@@ -25,9 +26,13 @@ abbrev pub is_within : ℕ → ℤ → Bool
 is_within limit (pos n) = nat_lt n limit
 is_within limit (negsuc n) = nat_lt n limit
 
-abbrev pub ranged : (ℤ → Bool) → ℤ → Result Meaning DeError
-ranged fits n = if fits n then Ok (number n) else Err fail.InvalidValue
+-- the number, in the type's range
+abbrev pub ranged : (ℤ → Bool) → ℤ → Option Meaning
+ranged fits n = if fits n then Some (number n) else None
+
+abbrev pub ranged_or_invalid : (ℤ → Bool) → ℤ → Result Meaning DeError
+ranged_or_invalid fits n = ok_or (ranged fits n) fail.InvalidValue
 
 -- the number that a node is or that a key's text spells, in the type's range
 abbrev pub number_reads : (ℤ → Bool) → Reads
-number_reads fits m t = bind (keyed_reads int_at key_number m t) (ranged fits)
+number_reads fits m t = bind (keyed_reads int_at key_number m t) (ranged_or_invalid fits)

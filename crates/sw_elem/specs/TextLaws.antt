@@ -1,5 +1,5 @@
 -- The laws of truth values, texts, characters and nothing, by themselves and by their texts.
-use Rattle.std.specs.Prelude.{◌≡◌, ℕ, List, [], ◌∷◌, Bool, true, false, ◌&&◌, ◌==◌, if◌then◌else◌, length, Option, Some, None, option_map, Ok}
+use Rattle.std.specs.Prelude.{◌≡◌, ℕ, List, [], ◌∷◌, Bool, true, false, ◌&&◌, ◌==◌, if◌then◌else◌, length, Option, Some, None, option_map, Result, Ok}
 use Rattle.std.proofs.Common.{refl, ap, sym, subst, ◌∙◌, append-nil, arith}
 use Rattle.std.specs.Option.{ok_or}
 use Rattle.std.specs.Char.{IsScalar, encode_utf8}
@@ -12,7 +12,7 @@ use Rattle.sw_tree.specs.Meant.{IsNothing, IsTruth, IsText, IsCharText}
 use Rattle.sw_tree.specs.Proper.{IsNodeTree}
 use Rattle.sw_tree.specs.Utf8.{bool_text-utf8}
 use Rattle.sw_tree.specs.Steps.{bind_ok}
-use Rattle.sw_tree.specs.Tree.{Tree, truth_at, kind_of}
+use Rattle.sw_tree.specs.Tree.{Tree, truth_at, text_at, kind_of}
 use Rattle.sw_tree.specs.Tree as node
 use Rattle.sw_tree.specs.declared.mode.Mode.{Mode}
 use Rattle.sw_tree.specs.declared.mode.Kind.{Kind}
@@ -22,11 +22,13 @@ use Rattle.sw_tree.specs.declared.fail.DeError.TheVariants as fail
 use Rattle.sw_elem.specs.Equations.{LawfulReading, own_spot, own_spot-inside}
 use Rattle.sw_elem.specs.KeyPlace.{keyed_reads}
 use Rattle.sw_check.specs.TextClass.{IsOfClass}
+use Rattle.sw_check.specs.declared.class.TextClass.{TextClass}
 use Rattle.sw_elem.specs.Classes.{truth_class, byte_class}
 use Rattle.sw_elem.specs.ClassLaws.{truth_classed, text_classed, character_classed}
 use Rattle.sw_elem.specs.Text.{LawfulText}
 use Rattle.sw_elem.specs.Truths.{truth_named, truth_reads, truth_shows, truth_parses}
-use Rattle.sw_elem.specs.Texts.{texted_reads, text_reads, text_shows, text_parses, is_character, character_reads, character_parses, nothing_at, nothing_reads}
+use Rattle.sw_elem.specs.Strings.{texted_reads, text_reads, text_shows, text_parses, is_character, character_reads, character_parses, nothing_of, nothing_reads}
+use Rattle.sw_elem.specs.TakesLaws.{read_taken}
 
 -- ---- truth values
 
@@ -65,13 +67,16 @@ parsed_ok : (o : Option Meaning) (e : DeError) (v : Meaning) → ok_or o e ≡ O
 parsed_ok (Some w) e v p = cc
 parsed_ok None e v p = absurd (cc)
 
-module _ (P : Meaning → Type 0) (parses : List ℕ → Option Meaning) (e : DeError) (parsed : (s : List ℕ) (v : Meaning) → IsUtf8 s → parses s ≡ Some v → P v) where
-  texted_meanings : (m : Mode) (t : Tree) (v : Meaning) → IsNodeTree t → texted_reads parses e m t ≡ Ok v → P v
-  texted_meanings m (node.text s) v n p = parsed s v n.proper (parsed_ok (parses s) e v p)
-  texted_meanings m _ v n p = absurd (cc)
+proper_text : (t : Tree) (s : List ℕ) → IsNodeTree t → text_at t ≡ Some s → IsUtf8 s
+proper_text (node.text r) s n h = let e : r ≡ s = cc in subst IsUtf8 e n.proper
+proper_text _ s n h = absurd (cc)
 
-  texted_lawful : LawfulReading P (texted_reads parses e) own_spot
-  texted_lawful = record { meanings = texted_meanings; inside = λ m t d p. own_spot-inside m t }
+-- what a text stands for is read of it
+pub texted_lawful : {P : Meaning → Type 0} {shows : Meaning → List ℕ} {parses : List ℕ → Option Meaning} {class : TextClass} → LawfulText P shows parses class → (e : DeError) → LawfulReading P (texted_reads parses e) own_spot
+texted_lawful {P} {shows} {parses} {class} law e = record {
+  meanings = λ m t v n p. let q = read_taken text_at (λ s. ok_or (parses s) e) t v p in law.parsed q.0 v (proper_text t q.0 n q.1) (parsed_ok (parses q.0) e v q.2);
+  inside = λ m t d p. own_spot-inside m t;
+}
 
 chosen : (P : Meaning → Type 0) (x v : Meaning) (b : Bool) → (b ≡ true → P x) → (if b then Some x else None) ≡ Some v → P v
 chosen P x v true h p = let k : x ≡ v = cc in subst P k (h refl)
@@ -92,7 +97,7 @@ pub text_lawful : LawfulText IsText text_shows text_parses (byte_class false)
 text_lawful = record { shown = text_shown; classed = λ v h. text_classed (text_shows v); utf8 = text_utf8; parsed = text_parsed }
 
 pub text_reading_lawful : LawfulReading IsText text_reads own_spot
-text_reading_lawful = texted_lawful IsText text_parses (fail.InvalidType kind.Text) text_lawful.parsed
+text_reading_lawful = texted_lawful text_lawful fail.InvalidValue
 
 both : (a b : Bool) → (a && b) ≡ true → (a ≡ true) × (b ≡ true)
 both true b h = (refl, h)
@@ -130,13 +135,19 @@ pub character_lawful : LawfulText IsCharText text_shows character_parses (byte_c
 character_lawful = record { shown = character_shown; classed = character_is_classed; utf8 = character_utf8; parsed = λ s v u p. chosen IsCharText (text s) v (is_character s) (character_is s) p }
 
 pub character_reading_lawful : LawfulReading IsCharText character_reads own_spot
-character_reading_lawful = texted_lawful IsCharText character_parses fail.InvalidValue character_lawful.parsed
+character_reading_lawful = texted_lawful character_lawful fail.InvalidValue
 
 -- ---- nothing
 
-nothing_there : (k : Kind) (v : Meaning) → nothing_at k ≡ Ok v → IsNothing v
+nothing_there : (k : Kind) (v : Meaning) → nothing_of k ≡ Some v → IsNothing v
 nothing_there kind.Null v p = let e : nothing ≡ v = cc in subst IsNothing e tt
 nothing_there _ v p = absurd (cc)
 
+nothing_read : (k : Kind) (x v : Meaning) (r : Result Meaning DeError) → nothing_of k ≡ Some x → r ≡ Ok x → r ≡ Ok v → IsNothing v
+nothing_read k x v r h p q = let e : x ≡ v = cc in subst IsNothing e (nothing_there k x h)
+
+nothing_meanings : (m : Mode) (t : Tree) (v : Meaning) → nothing_reads m t ≡ Ok v → IsNothing v
+nothing_meanings m t v p = let q = read_taken (λ u. nothing_of (kind_of u)) (λ x. Ok x) t v p in nothing_read (kind_of t) q.0 v (Ok q.0) q.1 refl q.2
+
 pub nothing_lawful : LawfulReading IsNothing nothing_reads own_spot
-nothing_lawful = record { meanings = λ m t v n p. nothing_there (kind_of t) v p; inside = λ m t e p. own_spot-inside m t }
+nothing_lawful = record { meanings = λ m t v n p. nothing_meanings m t v p; inside = λ m t e p. own_spot-inside m t }

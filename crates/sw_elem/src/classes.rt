@@ -6,17 +6,24 @@ ghost use Rattle.sw_elem.specs.Classes as classes;
 use sw_check::class::TextClass;
 
 /// The digits.
-pub(crate) fn digits() -> TextClass
+fn digits() -> TextClass
     ensures { result ≡ classes.digit_class }
 {
     TextClass::of("0123456789")
 }
 
 /// The digits and the minus.
-pub(crate) fn signed_digits() -> TextClass
+fn signed_digits() -> TextClass
     ensures { result ≡ classes.signed_class }
 {
     TextClass::of("-0123456789")
+}
+
+/// What a number is shown by, where it has a sign and where it has none.
+pub(crate) fn of_decimals(signed: bool) -> TextClass
+    ensures { result ≡ classes.decimal_class signed }
+{
+    if signed { signed_digits() } else { digits() }
 }
 
 /// The letters of `true` and `false`.

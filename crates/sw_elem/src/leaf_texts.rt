@@ -1,8 +1,8 @@
 //! The texts of truth values, characters and texts.
 
 use crate::classes;
+use crate::strings::{char_in, char_text, copied, put_char};
 use crate::text::{ParseFail, TextForm};
-use crate::texts::{char_in, char_text, copied, put_char};
 use crate::truths::truth_named;
 use std::alloc::{AllocError, Global};
 use sw_check::class::TextClass;
@@ -59,7 +59,7 @@ impl TextForm for bool {
 /// Exactly one character.
 impl TextForm for char {
     ghost use Rattle.std.specs.Prelude.{true};
-    ghost use Rattle.sw_elem.specs.Texts.{text_shows, character_parses};
+    ghost use Rattle.sw_elem.specs.Strings.{text_shows, character_parses};
     ghost use Rattle.sw_elem.specs.TextLaws.{character_lawful};
     ghost use Rattle.sw_elem.specs.Classes.{byte_class};
 
@@ -98,7 +98,7 @@ impl TextForm for char {
 /// Any text.
 impl TextForm for String {
     ghost use Rattle.std.specs.Prelude.{false};
-    ghost use Rattle.sw_elem.specs.Texts.{text_shows, text_parses};
+    ghost use Rattle.sw_elem.specs.Strings.{text_shows, text_parses};
     ghost use Rattle.sw_elem.specs.TextLaws.{text_lawful};
     ghost use Rattle.sw_elem.specs.Classes.{byte_class};
 

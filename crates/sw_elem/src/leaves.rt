@@ -4,7 +4,7 @@ use crate::element::Element;
 use crate::facts;
 use crate::refuse::refused_at;
 use crate::serialize::{Deserialize, Serialize};
-use crate::texts::{char_in, copied, put_char};
+use crate::strings::{char_in, copied, put_char};
 use crate::truths::bool_at;
 use std::alloc::Global;
 use sw_check::facts::Facts;
@@ -75,7 +75,7 @@ impl Element for bool {
 }
 
 impl Serialize for char {
-    ghost use Rattle.sw_elem.specs.Texts.{text_writes};
+    ghost use Rattle.sw_elem.specs.Strings.{text_writes};
 
     ghost writes = { text_writes };
 
@@ -89,7 +89,7 @@ impl Serialize for char {
 impl Deserialize for char {
     ghost use Rattle.std.specs.Prelude.{true};
     ghost use Rattle.sw_elem.specs.Equations.{own_spot, no_skips};
-    ghost use Rattle.sw_elem.specs.Texts.{character_reads};
+    ghost use Rattle.sw_elem.specs.Strings.{character_reads};
     ghost use Rattle.sw_elem.specs.TextLaws.{character_reading_lawful};
 
     const FREE: bool = true;
@@ -137,7 +137,7 @@ impl Element for char {
 }
 
 impl Serialize for String {
-    ghost use Rattle.sw_elem.specs.Texts.{text_writes};
+    ghost use Rattle.sw_elem.specs.Strings.{text_writes};
 
     ghost writes = { text_writes };
 
@@ -150,7 +150,7 @@ impl Serialize for String {
 impl Deserialize for String {
     ghost use Rattle.std.specs.Prelude.{false};
     ghost use Rattle.sw_elem.specs.Equations.{own_spot, no_skips};
-    ghost use Rattle.sw_elem.specs.Texts.{text_reads};
+    ghost use Rattle.sw_elem.specs.Strings.{text_reads};
     ghost use Rattle.sw_elem.specs.TextLaws.{text_reading_lawful};
 
     const FREE: bool = false;
@@ -198,7 +198,7 @@ impl Element for String {
 }
 
 impl Serialize for () {
-    ghost use Rattle.sw_elem.specs.Texts.{nothing_writes};
+    ghost use Rattle.sw_elem.specs.Strings.{nothing_writes};
 
     ghost writes = { nothing_writes };
 
@@ -211,7 +211,7 @@ impl Serialize for () {
 impl Deserialize for () {
     ghost use Rattle.std.specs.Prelude.{true};
     ghost use Rattle.sw_elem.specs.Equations.{own_spot, no_skips};
-    ghost use Rattle.sw_elem.specs.Texts.{nothing_reads};
+    ghost use Rattle.sw_elem.specs.Strings.{nothing_reads};
     ghost use Rattle.sw_elem.specs.TextLaws.{nothing_lawful};
 
     const FREE: bool = true;

@@ -6,20 +6,19 @@ mod classes;
 mod digits;
 pub mod element;
 pub mod facts;
+pub mod free;
+mod integer;
 mod key_place;
-pub mod laws;
 mod leaf_texts;
 mod leaves;
 pub mod numbers;
 pub mod refuse;
 pub mod serialize;
 mod signed;
-mod signed_texts;
+mod strings;
 pub mod text;
-mod texts;
 mod truths;
 mod unsigned;
-mod unsigned_texts;
 
 pub use any::Any;
 pub use element::Element;
@@ -27,5 +26,7 @@ pub use refuse::refused_at;
 pub use serialize::{Deserialize, Serialize};
 pub use text::{ParseFail, TextForm};
 
+#[cfg(test)]
+mod own_element;
 #[cfg(test)]
 mod tests;

@@ -1,6 +1,6 @@
 //! Whole numbers by themselves, of any width.
 
-ghost use Rattle.std.specs.Prelude.{◌≡◌, ◌<◌, ◌≤◌, ◌+◌, ◌^◌, pos, IfOk};
+ghost use Rattle.std.specs.Prelude.{◌≡◌, ◌<◌, ◌≤◌, ◌+◌, ◌^◌, IfSome};
 ghost use Rattle.std.specs.Int.Signed.{mag};
 ghost use Rattle.std.specs.Option.{option_and_then};
 ghost use Rattle.sw_tree.specs.Meaning.{number as number_meaning};
@@ -9,11 +9,11 @@ ghost use Rattle.sw_tree.specs.Number.{key_number};
 ghost use Rattle.sw_tree.specs.Placed.{placed};
 ghost use Rattle.sw_tree.specs.Tree.{int, int_at};
 ghost use Rattle.sw_tree.specs.View.{seen, tree_of};
-ghost use Rattle.sw_elem.specs.Answers.{IsReadFreely};
 ghost use Rattle.sw_elem.specs.Equations.{own_spot};
 ghost use Rattle.sw_elem.specs.KeyPlace.{key_text, keyed_reads};
 ghost use Rattle.sw_elem.specs.Numbers as numbers;
-ghost use Rattle.sw_elem.specs.Numbers.{is_below, number_reads};
+ghost use Rattle.sw_elem.specs.Numbers.{is_below, ranged};
+ghost use Rattle.sw_elem.specs.Text.{IsParsedFreely};
 
 use crate::key_place;
 use crate::refuse::refusal_at;
@@ -49,23 +49,19 @@ pub fn whole_at(view: View<'_>, mode: Mode) -> Result<Whole, Refusal>
     }
 }
 
-/// That number, where it is from 0 to `most`.
-pub(crate) fn unsigned_at(view: View<'_>, mode: Mode, most: u128) -> Result<u128, Refusal>
-    ensures answer { IsReadFreely unsigned_meaning result (placed (number_reads (is_below (most + 1)) mode) (own_spot mode) (seen view.entry)) }
-    ensures within { IfOk result (λ n. n ≤ most) }
+/// The number, where it is from 0 to `most`.
+pub(crate) fn natural_below(whole: Whole, most: u128) -> Option<u128>
+    ensures answer { IsParsedFreely unsigned_meaning result (ranged (is_below (most + 1)) whole) }
+    ensures within { IfSome result (λ n. n ≤ most) }
 {
-    let number = match whole_at(view, mode) {
-        Ok(number) => number,
-        Err(refusal) => return Err(refusal),
-    };
-    match number.to_u128() {
-        Some(value) if value <= most => Ok(value),
-        _ => Err(refusal_at(view, DeError::InvalidValue)),
+    match whole.to_u128() {
+        Some(value) if value <= most => Some(value),
+        _ => None,
     }
 }
 
 /// Whether the number is from `-most - 1` to `most`.
-pub(crate) fn is_within(value: i128, most: u128) -> bool
+fn is_within(value: i128, most: u128) -> bool
     ensures { result ≡ numbers.is_within (most + 1) value }
 {
     if value >= 0 {
@@ -75,24 +71,20 @@ pub(crate) fn is_within(value: i128, most: u128) -> bool
     }
 }
 
-/// That number, where it is from `-most - 1` to `most`.
-pub(crate) fn signed_at(view: View<'_>, mode: Mode, most: u128) -> Result<i128, Refusal>
+/// The number, where it is from `-most - 1` to `most`.
+pub(crate) fn signed_within(whole: Whole, most: u128) -> Option<i128>
     requires { most < 2 ^ 127 }
-    ensures answer { IsReadFreely number_meaning result (placed (number_reads (numbers.is_within (most + 1)) mode) (own_spot mode) (seen view.entry)) }
-    ensures within { IfOk result (λ n. mag n ≤ most) }
+    ensures answer { IsParsedFreely number_meaning result (ranged (numbers.is_within (most + 1)) whole) }
+    ensures within { IfSome result (λ n. mag n ≤ most) }
 {
-    let number = match whole_at(view, mode) {
-        Ok(number) => number,
-        Err(refusal) => return Err(refusal),
-    };
-    match number.to_i128() {
+    match whole.to_i128() {
         Some(value) => {
             if is_within(value, most) {
-                Ok(value)
+                Some(value)
             } else {
-                Err(refusal_at(view, DeError::InvalidValue))
+                None
             }
         }
-        None => Err(refusal_at(view, DeError::InvalidValue)),
+        None => None,
     }
 }

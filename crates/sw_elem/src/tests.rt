@@ -1,7 +1,7 @@
 use crate::any::Any;
 use crate::element::Element;
 use crate::facts::{either, everywhere, keyed, only, stands, told, with};
-use crate::laws::{are_copies_free, are_leaves_free, are_parsed_free, is_parsed_text_free};
+use crate::free::{are_copies_free, are_leaves_free, are_parsed_free, is_parsed_text_free};
 use crate::numbers::whole_at;
 use crate::serialize::{Deserialize, Serialize};
 use crate::text::{ParseFail, TextForm};

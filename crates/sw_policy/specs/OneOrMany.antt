@@ -4,7 +4,7 @@ use Rattle.sw_tree.specs.Meaning.{list, no_meanings, meaning}
 use Rattle.sw_tree.specs.Mode.{at_value, marked}
 use Rattle.sw_tree.specs.Steps.{bind}
 use Rattle.sw_elem.specs.Equations.{Writes, Reads, Spots, Skips}
-use Rattle.sw_elem.specs.Laws.{Norm}
+use Rattle.sw_elem.specs.Statements.{Norm}
 use Rattle.sw_core.specs.Vec.{list_writes, list_reads, list_skips, list_norm}
 use Rattle.sw_policy.specs.Options.{Reader, reader}
 use Rattle.sw_policy.specs.PickFirst.{pick_reads, pick_skips}

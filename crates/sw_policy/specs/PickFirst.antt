@@ -6,7 +6,7 @@ use Rattle.sw_tree.specs.declared.fail.DeError.{DeError}
 use Rattle.sw_tree.specs.declared.fail.DeError.TheVariants.{NoVariant}
 use Rattle.sw_tree.specs.declared.fail.DeKind.{DeKind}
 use Rattle.sw_elem.specs.Equations.{Reads, Skips}
-use Rattle.sw_elem.specs.Laws.{Norm}
+use Rattle.sw_elem.specs.Statements.{Norm}
 use Rattle.sw_policy.specs.Options.{Reader, first_read, tried_skips}
 
 -- up to four kinds, in four places

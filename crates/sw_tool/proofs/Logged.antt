@@ -18,7 +18,7 @@ use Rattle.sw_tree.specs.declared.fail.Refusal.{Refusal}
 use Rattle.sw_tree.specs.declared.fail.WireError.{WireError}
 use Rattle.sw_tree.specs.declared.mode.WireKind.TheVariants.{Json}
 use Rattle.sw_elem.specs.Equations.{Writes, Reads, Spots, Skips}
-use Rattle.sw_elem.specs.Laws.{HasNoteKinds}
+use Rattle.sw_elem.specs.Statements.{HasNoteKinds}
 use Rattle.sw_core.specs.Recoding.{found, noted}
 use Rattle.sw_json.specs.Spelled.{spelled}
 use Rattle.sw_tool.specs.Log.{Entry, entry_text, heading, log_text, IsLogText}

@@ -12,7 +12,7 @@ use Rattle.sw_check.specs.declared.blame.Blame.{Blame}
 use Rattle.sw_check.specs.declared.grade.Grade.{Grade}
 use Rattle.sw_elem.specs.Facts.{number_facts, truth_facts, text_facts, any_facts}
 use Rattle.sw_elem.specs.Numbers.{number_writes, number_reads, is_below}
-use Rattle.sw_elem.specs.Texts.{text_writes, text_reads}
+use Rattle.sw_elem.specs.Strings.{text_writes, text_reads}
 use Rattle.sw_elem.specs.Truths.{truth_writes, truth_reads}
 use Rattle.sw_elem.specs.Foreign.{any_reads, any_spot, any_writes}
 use Rattle.sw_elem.specs.Equations.{Writes, Reads, Spots, Skips, own_spot, no_skips}

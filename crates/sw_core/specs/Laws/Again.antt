@@ -8,7 +8,7 @@ use Rattle.sw_tree.specs.Wires.{Spelled, Texts, printed}
 use Rattle.sw_tree.specs.declared.mode.WireKind.{WireKind}
 use Rattle.std.specs.Prelude.{Ok}
 use Rattle.sw_elem.specs.Equations.{Writes, Reads}
-use Rattle.sw_elem.specs.Laws.{Norm}
+use Rattle.sw_elem.specs.Statements.{Norm}
 use Rattle.sw_core.specs.Again.{SpellsImage, ReadsAgain, IsKept}
 
 one_text : (o : Option (List ℕ)) (b c : List ℕ) → o ≡ Some b → o ≡ Some c → b ≡ c

@@ -24,7 +24,7 @@ use Rattle.sw_check.specs.Grade.{grade, is_exact}
 use Rattle.sw_check.specs.Rules.{is_json_key}
 use Rattle.sw_check.specs.Laws.SoundForms.{sound-map, exact_is, exact-worst}
 use Rattle.sw_elem.specs.Equations.{Writes, Reads, Spots, Skips, LawfulReading}
-use Rattle.sw_elem.specs.Laws.{Norm, HasImages, ReadsBack, NeverKey, IsUnmarked, IsExact, WritesNodes, NormsWithin}
+use Rattle.sw_elem.specs.Statements.{Norm, HasImages, ReadsBack, NeverKey, IsUnmarked, IsExact, WritesNodes, NormsWithin}
 use Rattle.sw_elem.specs.Lawful.{Lawful}
 use Rattle.sw_core.specs.Plans.{children}
 use Rattle.sw_core.specs.Rows.{Reader, reader, turns_by}

@@ -20,7 +20,7 @@ use Rattle.sw_check.specs.Kinds.{kinds_written, kinds_read}
 use Rattle.sw_check.specs.Laws.SoundForms.{sound-key_map, key_map-map, exact_is}
 use Rattle.sw_check.specs.declared.grade.Grade.TheVariants.{Exact}
 use Rattle.sw_elem.specs.Equations.{Writes, Reads, Spots, Skips, LawfulReading}
-use Rattle.sw_elem.specs.Laws.{Norm, IsExact, NormsWithin}
+use Rattle.sw_elem.specs.Statements.{Norm, IsExact, NormsWithin}
 use Rattle.sw_elem.specs.Lawful.{Lawful}
 use Rattle.sw_core.specs.Entries.{entries_writes, entries_spot, entries_skips, entries_norm, pair_norm}
 use Rattle.sw_core.specs.OrderedMap.{in_order, ordered_reads, ordered_map_reads, ordered_map_norm}

@@ -12,7 +12,7 @@ use Rattle.sw_tree.specs.declared.mode.Mode.{Mode}
 use Rattle.sw_tree.specs.declared.fail.DeError.{DeError}
 use Rattle.sw_tree.specs.declared.fail.DeError.TheVariants as fail
 use Rattle.sw_elem.specs.Equations.{LawfulReading}
-use Rattle.sw_elem.specs.Laws.{HasSpotKinds, HasNoteKinds}
+use Rattle.sw_elem.specs.Statements.{HasSpotKinds, HasNoteKinds}
 use Rattle.sw_core.specs.Rows.{row_reads, row_spot, row_skips}
 use Rattle.sw_core.specs.Plans.{children, Plans, plan_reads, plan_spot, plan_skips}
 use Rattle.sw_core.specs.Laws.Nodes.{children-nodes, below, all_below}

@@ -12,7 +12,7 @@ use Rattle.sw_tree.specs.declared.mode.Kind.{Kind}
 use Rattle.sw_tree.specs.declared.mode.Mode.{Mode}
 use Rattle.sw_tree.specs.declared.fail.DeError.{DeError}
 use Rattle.sw_elem.specs.Equations.{Reads, Spots, Skips, LawfulReading}
-use Rattle.sw_elem.specs.Laws.{HasSpotKinds, HasNoteKinds}
+use Rattle.sw_elem.specs.Statements.{HasSpotKinds, HasNoteKinds}
 use Rattle.sw_core.specs.Rows.{Reader, reader, each_by, turns_by, row_reads, row_spot, row_skips}
 use Rattle.sw_tree.specs.Laws.Nodes.{all_kinds, refusal, IsStable, IsBelow, IsOfKind, behind, all_before, all_behind}
 

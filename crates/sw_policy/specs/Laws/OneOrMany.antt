@@ -23,7 +23,7 @@ use Rattle.sw_check.specs.Kinds.{kinds_written, kinds_read}
 use Rattle.sw_check.specs.Blame.{IsSound}
 use Rattle.sw_check.specs.Laws.SoundForms.{sound-one_or_many, one_or_many-vec}
 use Rattle.sw_elem.specs.Equations.{Writes, Reads, Spots, Skips, LawfulReading, own_spot}
-use Rattle.sw_elem.specs.Laws.{Norm, HasImages, ReadsBack, NeverKey, IsUnmarked, WritesNodes}
+use Rattle.sw_elem.specs.Statements.{Norm, HasImages, ReadsBack, NeverKey, IsUnmarked, WritesNodes}
 use Rattle.sw_elem.specs.Lawful.{Lawful}
 use Rattle.sw_core.specs.Vec.{list_writes, list_reads, list_spot, list_skips, list_norm}
 use Rattle.sw_core.specs.Laws.Images.{image-elsewhere}

@@ -1,35 +1,40 @@
--- A text by itself, a character by its text, and nothing by the null.
-use Rattle.std.specs.Prelude.{ℕ, List, [], Bool, ◌&&◌, ◌==◌, if◌then◌else◌, length, Option, Some, None, Result, Ok, Err}
+-- A value by its text; so a text by itself, and a character. And nothing, by the null.
+use Rattle.std.specs.Prelude.{ℕ, List, [], Bool, ◌&&◌, ◌==◌, if◌then◌else◌, length, Option, Some, None, Ok}
 use Rattle.std.specs.Option.{ok_or}
 use Rattle.std.specs.Str.{chars, is_utf8}
 use Rattle.sw_tree.specs.Meaning.{Meaning, nothing, text}
-use Rattle.sw_tree.specs.Tree.{kind_of}
+use Rattle.sw_tree.specs.Steps.{bind}
+use Rattle.sw_tree.specs.Tree.{text_at, kind_of}
 use Rattle.sw_tree.specs.Tree as node
 use Rattle.sw_tree.specs.declared.mode.Kind.{Kind}
 use Rattle.sw_tree.specs.declared.mode.Kind.TheVariants as kind
 use Rattle.sw_tree.specs.declared.fail.DeError.{DeError}
 use Rattle.sw_tree.specs.declared.fail.DeError.TheVariants as fail
 use Rattle.sw_elem.specs.Equations.{Writes, Reads}
+use Rattle.sw_elem.specs.Takes.{takes}
 
--- the text; what no text means is free
-abbrev pub text_writes : Writes
-text_writes m (text s) = Ok (node.text s)
-text_writes m v = Ok node.null
+-- the text that is shown
+abbrev pub texted_writes : (Meaning → List ℕ) → Writes
+texted_writes shows m v = Ok (node.text (shows v))
 
 -- what a text stands for, or that refusal
 abbrev pub texted_reads : (List ℕ → Option Meaning) → DeError → Reads
-texted_reads parses e m (node.text s) = ok_or (parses s) e
-texted_reads parses e m t = Err (fail.InvalidType (kind_of t))
+texted_reads parses e m t = bind (takes text_at t) (λ s. ok_or (parses s) e)
 
+-- the text; what no text means is free
 abbrev pub text_shows : Meaning → List ℕ
 text_shows (text s) = s
 text_shows _ = []
 
+abbrev pub text_writes : Writes
+text_writes = texted_writes text_shows
+
+-- no text is refused
 abbrev pub text_parses : List ℕ → Option Meaning
 text_parses s = Some (text s)
 
 abbrev pub text_reads : Reads
-text_reads = texted_reads text_parses (fail.InvalidType kind.Text)
+text_reads = texted_reads text_parses fail.InvalidValue
 
 -- the text of one character
 abbrev pub is_character : List ℕ → Bool
@@ -44,10 +49,10 @@ character_reads = texted_reads character_parses fail.InvalidValue
 abbrev pub nothing_writes : Writes
 nothing_writes m v = Ok node.null
 
-abbrev pub nothing_at : Kind → Result Meaning DeError
-nothing_at kind.Null = Ok nothing
-nothing_at k = Err (fail.InvalidType k)
+abbrev pub nothing_of : Kind → Option Meaning
+nothing_of kind.Null = Some nothing
+nothing_of k = None
 
 -- nothing, where the node is the null
 abbrev pub nothing_reads : Reads
-nothing_reads m t = nothing_at (kind_of t)
+nothing_reads m t = bind (takes (λ u. nothing_of (kind_of u)) t) (λ v. Ok v)

@@ -6,7 +6,7 @@ ghost use Rattle.sw_tree.specs.Building.{IsBuilt};
 ghost use Rattle.sw_tree.specs.Meant.{text_meaning, char_meaning};
 ghost use Rattle.sw_tree.specs.Tree.{text};
 ghost use Rattle.sw_elem.specs.Text.{IsParsedFreely};
-ghost use Rattle.sw_elem.specs.Texts.{text_parses, character_parses};
+ghost use Rattle.sw_elem.specs.Strings.{text_parses, character_parses};
 
 use std::alloc::{AllocError, Global};
 use sw_tree::builds::Builds;

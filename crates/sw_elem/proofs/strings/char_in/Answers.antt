@@ -2,9 +2,9 @@ use Rattle.std.proofs.Common.{◌≡◌, Bool, true, false, List, ℕ, Some, Non
 use Rattle.std.specs.Char.{IsScalar, encode_utf8}
 use Rattle.std.specs.Prelude.{if◌then◌else◌}
 use Rattle.sw_tree.specs.Meaning.{text}
-use Rattle.sw_elem.specs.Texts.{is_character, character_parses}
+use Rattle.sw_elem.specs.Strings.{is_character, character_parses}
 use Rattle.sw_elem.specs.TextLaws.{character_is, is_character-encode}
-use Rattle.sw_elem.proofs.texts.char_in.Goals as goal
+use Rattle.sw_elem.proofs.strings.char_in.Goals as goal
 
 one : (s : List ℕ) (c : ℕ) → IsScalar c → s ≡ encode_utf8 c → character_parses s ≡ Some (text (encode_utf8 c))
 one s c h e = rw (e, is_character-encode c h) refl
