@@ -1,13 +1,11 @@
 -- What a writer and a reader are, as functions of meanings and trees in each mode, and the law of a reader.
-use Rattle.std.specs.Prelude.{◌≡◌, ℕ, ◌<◌, List, [], Some, Result, Ok, Err}
-use Rattle.std.proofs.Common.{refl, ap}
+use Rattle.std.specs.Prelude.{◌≡◌, ℕ, ◌<◌, List, [], Result, Ok, Err}
+use Rattle.std.proofs.Common.{arith}
 use Rattle.sw_tree.specs.Meaning.{Meaning}
-use Rattle.sw_tree.specs.Nodes.{kinds, HasKind, HasKind-below}
 use Rattle.sw_tree.specs.Placed.{Note}
 use Rattle.sw_tree.specs.Proper.{IsNodeTree}
-use Rattle.sw_tree.specs.Tree.{Tree, size, kind_of}
+use Rattle.sw_tree.specs.Tree.{Tree, size}
 use Rattle.sw_tree.specs.Tree as tree
-use Rattle.sw_tree.specs.declared.mode.Kind.{Kind}
 use Rattle.sw_tree.specs.declared.mode.Mode.{Mode}
 use Rattle.sw_tree.specs.declared.fail.SerError.{SerError}
 use Rattle.sw_tree.specs.declared.fail.DeError.{DeError}
@@ -41,15 +39,11 @@ own_spot m t = 0
 abbrev pub no_skips : Skips
 no_skips m t = []
 
--- a tree's own node has the number 0
-pub own_kind : (t : Tree) (k : Kind) → kind_of t ≡ k → HasKind (kinds t) 0 k
-own_kind tree.null k h = ap Some h
-own_kind (tree.truth b) k h = ap Some h
-own_kind (tree.int n) k h = ap Some h
-own_kind (tree.text s) k h = ap Some h
-own_kind (tree.bytes s) k h = ap Some h
-own_kind (tree.list ts) k h = ap Some h
-own_kind (tree.map es) k h = ap Some h
-
 pub own_spot-inside : (m : Mode) (t : Tree) → own_spot m t < size t
-own_spot-inside m t = HasKind-below t 0 (kind_of t) (own_kind t (kind_of t) refl)
+own_spot-inside m tree.null = omega arith
+own_spot-inside m (tree.truth b) = omega arith
+own_spot-inside m (tree.int n) = omega arith
+own_spot-inside m (tree.text s) = omega arith
+own_spot-inside m (tree.bytes s) = omega arith
+own_spot-inside m (tree.list ts) = omega arith
+own_spot-inside m (tree.map es) = omega arith

@@ -8,7 +8,8 @@ use Rattle.sw_tree.specs.declared.mode.Mode.{Mode}
 use Rattle.sw_tree.specs.declared.mode.Kind.{Kind}
 use Rattle.sw_tree.specs.declared.fail.DeError.{DeError}
 use Rattle.sw_tree.specs.declared.fail.DeError.TheVariants as fail
-use Rattle.sw_elem.specs.Equations.{own_spot, own_kind}
+use Rattle.sw_tree.specs.Laws.Nodes.{own_kind}
+use Rattle.sw_elem.specs.Equations.{own_spot}
 use Rattle.sw_elem.specs.Statements.{HasSpotKinds}
 use Rattle.sw_elem.specs.Takes.{takes}
 
