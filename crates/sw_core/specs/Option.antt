@@ -4,7 +4,7 @@ use Rattle.sw_tree.specs.Meaning.{nothing, case}
 use Rattle.sw_tree.specs.Steps.{bind}
 use Rattle.sw_tree.specs.Tree.{null}
 use Rattle.sw_elem.specs.Equations.{Writes, Reads, Spots, Skips}
-use Rattle.sw_elem.specs.Laws.{Norm}
+use Rattle.sw_elem.specs.Statements.{Norm}
 
 -- what no option means is free
 abbrev pub option_writes : Writes → Writes

@@ -21,7 +21,7 @@ use Rattle.sw_check.specs.Kinds.{kinds_written, kinds_read}
 use Rattle.sw_check.specs.Rules.{is_json_key}
 use Rattle.sw_check.specs.SoundForms.{sound-option}
 use Rattle.sw_elem.specs.Equations.{Writes, Reads, Spots, Skips, LawfulReading}
-use Rattle.sw_elem.specs.Laws.{Norm, HasImages, ReadsBack, NeverKey, IsUnmarked, IsExact, HasSpotKinds, HasNoteKinds, WritesNodes, NormsWithin}
+use Rattle.sw_elem.specs.Statements.{Norm, HasImages, ReadsBack, NeverKey, IsUnmarked, IsExact, HasSpotKinds, HasNoteKinds, WritesNodes, NormsWithin}
 use Rattle.sw_elem.specs.Lawful.{Lawful}
 use Rattle.sw_core.specs.Option.{option_writes, option_reads, option_spot, option_skips, option_norm}
 use Rattle.sw_core.specs.Laws.Images.{image-elsewhere, mapped_some}

@@ -12,7 +12,7 @@ use Rattle.sw_check.specs.Form.{Form, vec, set}
 use Rattle.sw_check.specs.Grade.{grade}
 use Rattle.sw_check.specs.SoundForms.{sound-set, set-vec, exact_is}
 use Rattle.sw_elem.specs.Equations.{Writes, Reads, Spots, Skips, LawfulReading}
-use Rattle.sw_elem.specs.Laws.{Norm}
+use Rattle.sw_elem.specs.Statements.{Norm}
 use Rattle.sw_elem.specs.Lawful.{Lawful, same_norm}
 use Rattle.sw_core.specs.OrderedMap.{in_order}
 use Rattle.sw_core.specs.Set.{set_reads}
