@@ -2,4 +2,3 @@
 pub mod Rows
 pub mod Putting
 pub mod Printing
-pub mod ByteWire
