@@ -3,4 +3,3 @@ pub mod Rows
 pub mod Iterated
 pub mod Putting
 pub mod Printing
-pub mod ByteWire

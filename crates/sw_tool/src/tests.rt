@@ -11,20 +11,9 @@ use crate::source::Source;
 use crate::status::Status;
 use std::alloc::{AllocError, Global};
 use std::process::Abort;
-use sw_check::blame::CheckFail;
-use sw_check::rule::Rule;
-use sw_core::adapter::{Adapter, DeserializeAs, SerializeAs};
-use sw_core::as_::As;
-use sw_core::display::DisplayFromStr;
-use sw_core::faithful::faithful;
-use sw_core::formats::{PreferMany, PreferOne};
-use sw_core::same::Same;
 use sw_json::JsonWire;
-use sw_pairs::Map;
-use sw_policy::{OneOrMany, PickFirst};
 use sw_tree::fail::{DeError, Refusal};
-use sw_tree::meant::Meant;
-use sw_tree::mode::{Kind, Mode, WireKind};
+use sw_tree::mode::Kind;
 use sw_tree::path::path_of;
 use sw_tree::skipped::Skipped;
 use sw_tree::wire::Wire;
@@ -326,68 +315,6 @@ fn the_check_comes_before_the_input(rt: HostRuntime) -> Result<(), AllocError> {
         let to = sink(alloc, 64, &[])?;
         check(&rt, verb, profile, from, to, status, output, line)?;
     }
-    Ok(())
-}
-
-/// Whether that rule is blamed at the subexpression of those steps.
-fn is_blamed<A: Adapter<T>, T: Meant>(alloc: Global, rule: Rule, steps: &[u16]) -> bool {
-    match faithful::<A, T, JsonWire>(alloc) {
-        Err(CheckFail::Blame(blame)) => blame.rule == rule && blame.path.steps() == steps,
-        _ => false,
-    }
-}
-
-/// The JSON text that the value is written as, without the check; none where its tree has no image.
-fn written<A: SerializeAs<T>, T: Meant>(alloc: Global, value: &T) -> Option<Vec<u8>> {
-    let node = As::<A>::serialize::<T>(alloc, value, Mode::plain(WireKind::Json)).ok()?;
-    JsonWire::print(alloc, &node).ok()
-}
-
-/// The value that a JSON text is read as, without the check.
-fn read<A: DeserializeAs<T>, T: Meant>(alloc: Global, text: &[u8]) -> Option<T> {
-    let doc = JsonWire::read_tree(alloc, text).ok()?;
-    let mut log = Skipped::new(alloc);
-    As::<A>::deserialize::<T>(alloc, doc.view(), Mode::plain(WireKind::Json), &mut log).ok()
-}
-
-type Keys = Map<PickFirst<(Same, Same)>, Same>;
-
-type Lists = OneOrMany<Vec<Same>, PreferOne>;
-
-type Listed = Map<OneOrMany<DisplayFromStr, PreferMany>, Same>;
-
-#[test]
-fn no_rule_is_idle(rt: HostRuntime) -> Result<(), AllocError> {
-    let alloc = rt.alloc();
-    assert!(rt; is_blamed::<Keys, Vec<(u32, bool)>>(alloc, Rule::S1, &[0, 0]));
-    let mut pairs: Vec<(u32, bool)> = Vec::new(alloc);
-    pairs.push((5, true))?;
-    let text = written::<Keys, Vec<(u32, bool)>>(alloc, &pairs);
-    assert!(rt; matches!(&text, Some(text) if text.as_slice() == b"{\"5\":true}".as_slice()));
-    assert!(rt; matches!(read::<Keys, Vec<(u32, bool)>>(alloc, b"{\"5\":true}"), None));
-
-    assert!(rt; is_blamed::<Listed, Vec<(Vec<u32>, u32)>>(alloc, Rule::S2, &[0],));
-    let read_one = read::<Listed, Vec<(Vec<u32>, u32)>>(alloc, b"{\"1\":2}");
-    assert!(rt;
-        matches!(&read_one, Some(one) if matches!(written::<Listed, Vec<(Vec<u32>, u32)>>(alloc, one), None))
-    );
-    let mut key: Vec<u8> = Vec::new(alloc);
-    key.push(1)?;
-    let mut lists: Vec<(Vec<u8>, u8)> = Vec::new(alloc);
-    lists.push((key, 2))?;
-    assert!(rt;
-        matches!(
-            written::<Map<Vec<Same>, Same>, Vec<(Vec<u8>, u8)>>(alloc, &lists),
-            None
-        )
-    );
-
-    assert!(rt; is_blamed::<Lists, Vec<Vec<u8>>>(alloc, Rule::S3, &[]));
-    let none: Vec<Vec<u8>> = Vec::new(alloc);
-    let text = written::<Lists, Vec<Vec<u8>>>(alloc, &none);
-    assert!(rt; matches!(&text, Some(text) if text.as_slice() == b"[]".as_slice()));
-    let one = read::<Lists, Vec<Vec<u8>>>(alloc, b"[]");
-    assert!(rt; matches!(&one, Some(one) if one.len() == 1 && one[0].is_empty()));
     Ok(())
 }
 

@@ -1,7 +1,7 @@
 use Rattle.std.proofs.Common.{ap, sym, ◌∙◌}
 use Rattle.sw_tree.specs.Mode.{plain}
 use Rattle.sw_core.specs.Laws.Again.{kept_again}
-use Rattle.sw_core.proofs.tests.stored.Goals as goal
+use Rattle.sw_examples.proofs.stored.stored.Goals as goal
 
 pub returns-in-Ok-clause-again : goal.returns-in-Ok-clause-again
 returns-in-Ok-clause-again g c y =

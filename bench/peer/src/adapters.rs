@@ -1,0 +1,220 @@
+//! Adapters as types that hold a value, each read and written by serde.
+
+use serde::de::{Deserialize, Deserializer, Error, MapAccess, Visitor};
+use serde::ser::{Serialize, Serializer};
+use std::collections::{BTreeMap, VecDeque};
+use std::fmt::{self, Display};
+use std::marker::PhantomData;
+use std::str::FromStr;
+
+/// What holds a value of `T`, and may be made of one.
+pub trait Holds<T> {
+    fn of(value: T) -> Self;
+    fn value(self) -> T;
+}
+
+/// A value as it stands.
+#[derive(serde::Serialize, serde::Deserialize, PartialEq, Eq, PartialOrd, Ord)]
+#[serde(transparent)]
+pub struct Same<T>(T);
+
+impl<T> Holds<T> for Same<T> {
+    fn of(value: T) -> Self {
+        Same(value)
+    }
+    fn value(self) -> T {
+        self.0
+    }
+}
+
+/// A value by its text.
+pub struct Shown<T>(T);
+
+impl<T> Holds<T> for Shown<T> {
+    fn of(value: T) -> Self {
+        Shown(value)
+    }
+    fn value(self) -> T {
+        self.0
+    }
+}
+
+impl<T: Display> Serialize for Shown<T> {
+    fn serialize<S: Serializer>(&self, serializer: S) -> Result<S::Ok, S::Error> {
+        serializer.collect_str(&self.0)
+    }
+}
+
+impl<'de, T: FromStr> Deserialize<'de> for Shown<T> {
+    fn deserialize<D: Deserializer<'de>>(deserializer: D) -> Result<Self, D::Error> {
+        let text = String::deserialize(deserializer)?;
+        text.parse().map(Shown).map_err(|_| D::Error::custom("no such text"))
+    }
+}
+
+impl<T, A: Holds<T>> Holds<Vec<T>> for Vec<A> {
+    fn of(value: Vec<T>) -> Self {
+        value.into_iter().map(A::of).collect()
+    }
+    fn value(self) -> Vec<T> {
+        self.into_iter().map(A::value).collect()
+    }
+}
+
+impl<T, A: Holds<T>> Holds<VecDeque<T>> for VecDeque<A> {
+    fn of(value: VecDeque<T>) -> Self {
+        value.into_iter().map(A::of).collect()
+    }
+    fn value(self) -> VecDeque<T> {
+        self.into_iter().map(A::value).collect()
+    }
+}
+
+impl<T, A: Holds<T>> Holds<Box<T>> for Box<A> {
+    fn of(value: Box<T>) -> Self {
+        Box::new(A::of(*value))
+    }
+    fn value(self) -> Box<T> {
+        Box::new((*self).value())
+    }
+}
+
+impl<K: Ord, V, A: Holds<K> + Ord, B: Holds<V>> Holds<BTreeMap<K, V>> for BTreeMap<A, B> {
+    fn of(value: BTreeMap<K, V>) -> Self {
+        value.into_iter().map(|(key, value)| (A::of(key), B::of(value))).collect()
+    }
+    fn value(self) -> BTreeMap<K, V> {
+        self.into_iter().map(|(key, value)| (key.value(), value.value())).collect()
+    }
+}
+
+/// A list of pairs as a map.
+pub struct Pairs<A, B>(Vec<(A, B)>);
+
+impl<K, V, A: Holds<K>, B: Holds<V>> Holds<Vec<(K, V)>> for Pairs<A, B> {
+    fn of(value: Vec<(K, V)>) -> Self {
+        Pairs(value.into_iter().map(|(key, value)| (A::of(key), B::of(value))).collect())
+    }
+    fn value(self) -> Vec<(K, V)> {
+        self.0.into_iter().map(|(key, value)| (key.value(), value.value())).collect()
+    }
+}
+
+impl<A: Serialize, B: Serialize> Serialize for Pairs<A, B> {
+    fn serialize<S: Serializer>(&self, serializer: S) -> Result<S::Ok, S::Error> {
+        serializer.collect_map(self.0.iter().map(|(key, value)| (key, value)))
+    }
+}
+
+struct Entries<A, B>(PhantomData<(A, B)>);
+
+impl<'de, A: Deserialize<'de>, B: Deserialize<'de>> Visitor<'de> for Entries<A, B> {
+    type Value = Pairs<A, B>;
+
+    fn expecting(&self, formatter: &mut fmt::Formatter) -> fmt::Result {
+        formatter.write_str("a map")
+    }
+
+    fn visit_map<M: MapAccess<'de>>(self, mut map: M) -> Result<Self::Value, M::Error> {
+        let mut pairs = Vec::new();
+        while let Some(pair) = map.next_entry()? {
+            pairs.push(pair);
+        }
+        Ok(Pairs(pairs))
+    }
+}
+
+impl<'de, A: Deserialize<'de>, B: Deserialize<'de>> Deserialize<'de> for Pairs<A, B> {
+    fn deserialize<D: Deserializer<'de>>(deserializer: D) -> Result<Self, D::Error> {
+        deserializer.deserialize_map(Entries(PhantomData))
+    }
+}
+
+/// What serde set aside before it is read.
+#[derive(serde::Serialize, serde::Deserialize)]
+#[serde(untagged)]
+pub enum Aside<A> {
+    Only(A),
+}
+
+impl<T, A: Holds<T>> Holds<T> for Aside<A> {
+    fn of(value: T) -> Self {
+        Aside::Only(A::of(value))
+    }
+    fn value(self) -> T {
+        match self {
+            Aside::Only(only) => only.value(),
+        }
+    }
+}
+
+/// The first option that reads; of what is written, the first. More options are a choice of choices.
+#[derive(serde::Serialize, serde::Deserialize, PartialEq, Eq, PartialOrd, Ord)]
+#[serde(untagged)]
+pub enum Choice<A, B> {
+    First(A),
+    Other(B),
+}
+
+impl<T, A: Holds<T>, B: Holds<T>> Holds<T> for Choice<A, B> {
+    fn of(value: T) -> Self {
+        Choice::First(A::of(value))
+    }
+    fn value(self) -> T {
+        match self {
+            Choice::First(first) => first.value(),
+            Choice::Other(other) => other.value(),
+        }
+    }
+}
+
+#[derive(serde::Serialize, serde::Deserialize)]
+#[serde(untagged)]
+enum OneOrList<A> {
+    One(A),
+    Many(Vec<A>),
+}
+
+impl<A> OneOrList<A> {
+    fn values<T>(self) -> Vec<T>
+    where
+        A: Holds<T>,
+    {
+        match self {
+            OneOrList::One(one) => vec![one.value()],
+            OneOrList::Many(many) => many.value(),
+        }
+    }
+}
+
+/// One or a list, written as one where there is one.
+#[derive(serde::Serialize, serde::Deserialize)]
+#[serde(transparent)]
+pub struct PreferOne<A>(OneOrList<A>);
+
+impl<T, A: Holds<T>> Holds<Vec<T>> for PreferOne<A> {
+    fn of(mut value: Vec<T>) -> Self {
+        PreferOne(if value.len() == 1 {
+            OneOrList::One(A::of(value.remove(0)))
+        } else {
+            OneOrList::Many(Vec::of(value))
+        })
+    }
+    fn value(self) -> Vec<T> {
+        self.0.values()
+    }
+}
+
+/// One or a list, written as a list.
+#[derive(serde::Serialize, serde::Deserialize)]
+#[serde(transparent)]
+pub struct PreferMany<A>(OneOrList<A>);
+
+impl<T, A: Holds<T>> Holds<Vec<T>> for PreferMany<A> {
+    fn of(value: Vec<T>) -> Self {
+        PreferMany(OneOrList::Many(Vec::of(value)))
+    }
+    fn value(self) -> Vec<T> {
+        self.0.values()
+    }
+}

@@ -1,0 +1,112 @@
+//! The nests by their names in `sw_examples`.
+
+use crate::adapters::{Aside, Choice, Holds, Pairs, PreferMany, PreferOne, Same, Shown};
+use serde::{de::DeserializeOwned, Serialize};
+use serde_json::Value;
+use std::collections::{BTreeMap, VecDeque};
+
+/// The text that `S` writes for what `R` reads; none where either refuses.
+fn apart<R: Holds<T> + DeserializeOwned, S: Holds<T> + Serialize, T>(text: &str) -> Option<String> {
+    let read: R = serde_json::from_str(text).ok()?;
+    serde_json::to_string(&S::of(read.value())).ok()
+}
+
+fn again<A: Holds<T> + DeserializeOwned + Serialize, T>(text: &str) -> Option<String> {
+    apart::<A, A, T>(text)
+}
+
+type One = PreferOne<Vec<Same<u8>>>;
+type Many = Vec<Vec<Same<u8>>>;
+type Lists = Vec<Vec<u8>>;
+type Number = Same<u64>;
+type Text = Shown<u64>;
+type Flags = Pairs<Same<u32>, Same<bool>>;
+type ByChoice = Pairs<Choice<Same<u32>, Same<u32>>, Same<bool>>;
+type ByList = Pairs<Vec<Same<u32>>, Same<u32>>;
+type ByOneOrMany = Pairs<PreferMany<Shown<u32>>, Same<u32>>;
+
+pub fn answer(nest: &str, text: &str) -> Option<String> {
+    match nest {
+        "Same of u8" => again::<Same<u8>, u8>(text),
+        "Same of Any" => again::<Same<Value>, Value>(text),
+        "DisplayFromStr of u32" => again::<Shown<u32>, u32>(text),
+        "Vec<Same> of Vec<u8>" => again::<Vec<Same<u8>>, Vec<u8>>(text),
+        "Vec<DisplayFromStr> of Vec<u32>" => again::<Vec<Shown<u32>>, Vec<u32>>(text),
+        "VecDeque<DisplayFromStr> of VecDeque<u32>" => again::<VecDeque<Shown<u32>>, VecDeque<u32>>(text),
+        "Box<DisplayFromStr> of Box<u32>" => again::<Box<Shown<u32>>, Box<u32>>(text),
+        "Box<Vec<DisplayFromStr>> of Box<Vec<u32>>" => again::<Box<Vec<Shown<u32>>>, Box<Vec<u32>>>(text),
+        "BTreeMap<Same, DisplayFromStr> of BTreeMap<String, u32>" => {
+            again::<BTreeMap<Same<String>, Shown<u32>>, BTreeMap<String, u32>>(text)
+        }
+        "BTreeMap<Same, Same> of BTreeMap<u32, bool>" => {
+            again::<BTreeMap<Same<u32>, Same<bool>>, BTreeMap<u32, bool>>(text)
+        }
+        "Map<Same, Same> of Vec<(u32, bool)>" => again::<Flags, Vec<(u32, bool)>>(text),
+        "Map<Same, Same> of Vec<(u32, bool)>, set aside" => again::<Aside<Flags>, Vec<(u32, bool)>>(text),
+        "Map<Same, Vec<Same>> of Vec<(i64, Vec<u8>)>" => {
+            again::<Pairs<Same<i64>, Vec<Same<u8>>>, Vec<(i64, Vec<u8>)>>(text)
+        }
+        "Map<Vec<Same>, Same> of Vec<(Vec<u32>, u32)>" => {
+            again::<ByList, Vec<(Vec<u32>, u32)>>(text)
+        }
+        "Map<PickFirst<(Same,)>, Same> of Vec<(u32, bool)>" => again::<Flags, Vec<(u32, bool)>>(text),
+        "Map<PickFirst<(Same, Same)>, Same> of Vec<(u32, bool)>" => {
+            again::<ByChoice, Vec<(u32, bool)>>(text)
+        }
+        "Map<Same, Same>, written by Map<PickFirst<(Same, Same)>, Same>, of Vec<(u32, bool)>" => {
+            apart::<Flags, ByChoice, Vec<(u32, bool)>>(text)
+        }
+        "Map<PickFirst<(DisplayFromStr, DisplayFromStr)>, Same> of Vec<(u32, bool)>" => {
+            again::<Pairs<Choice<Shown<u32>, Shown<u32>>, Same<bool>>, Vec<(u32, bool)>>(text)
+        }
+        "Map<OneOrMany<DisplayFromStr, PreferMany>, Same> of Vec<(Vec<u32>, u32)>" => {
+            again::<ByOneOrMany, Vec<(Vec<u32>, u32)>>(text)
+        }
+        "Map<OneOrMany<DisplayFromStr, PreferMany>, Same>, written by Map<Vec<Same>, Same>, of Vec<(Vec<u32>, u32)>" => {
+            apart::<ByOneOrMany, ByList, Vec<(Vec<u32>, u32)>>(text)
+        }
+        "Map<Box<Vec<DisplayFromStr>>, Same> of Vec<(Box<Vec<u32>>, bool)>" => {
+            again::<Pairs<Box<Vec<Shown<u32>>>, Same<bool>>, Vec<(Box<Vec<u32>>, bool)>>(text)
+        }
+        "Map<BTreeMap<Same, Same>, Same> of Vec<(BTreeMap<u32, bool>, bool)>" => {
+            again::<Pairs<BTreeMap<Same<u32>, Same<bool>>, Same<bool>>, Vec<(BTreeMap<u32, bool>, bool)>>(text)
+        }
+        "PickFirst<(DisplayFromStr,)> of u64" => again::<Text, u64>(text),
+        "PickFirst<(DisplayFromStr, Same)> of u64" => again::<Choice<Text, Number>, u64>(text),
+        "PickFirst<(Same, DisplayFromStr)> of u64" => again::<Choice<Number, Text>, u64>(text),
+        "PickFirst<(DisplayFromStr, Same, Same)> of u64" => {
+            again::<Choice<Text, Choice<Number, Number>>, u64>(text)
+        }
+        "PickFirst<(Same, Same, DisplayFromStr)> of u64" => {
+            again::<Choice<Number, Choice<Number, Text>>, u64>(text)
+        }
+        "PickFirst<(DisplayFromStr, Same, Same, Same)> of u64" => {
+            again::<Choice<Text, Choice<Number, Choice<Number, Number>>>, u64>(text)
+        }
+        "PickFirst<(Same, Same, Same, DisplayFromStr)> of u64" => {
+            again::<Choice<Number, Choice<Number, Choice<Number, Text>>>, u64>(text)
+        }
+        "PickFirst<(Same, DisplayFromStr, Same, DisplayFromStr)> of u64" => {
+            again::<Choice<Number, Choice<Text, Choice<Number, Text>>>, u64>(text)
+        }
+        "Vec<PickFirst<(Same, DisplayFromStr)>> of Vec<u64>" => again::<Vec<Choice<Number, Text>>, Vec<u64>>(text),
+        "Vec<PickFirst<(DisplayFromStr, Same)>> of Vec<u64>" => again::<Vec<Choice<Text, Number>>, Vec<u64>>(text),
+        "OneOrMany<Same, PreferOne> of Vec<String>" => again::<PreferOne<Same<String>>, Vec<String>>(text),
+        "OneOrMany<Same, PreferMany> of Vec<String>" => again::<PreferMany<Same<String>>, Vec<String>>(text),
+        "OneOrMany<DisplayFromStr, PreferOne> of Vec<u64>" => again::<PreferOne<Text>, Vec<u64>>(text),
+        "OneOrMany<Vec<Same>, PreferOne> of Vec<Vec<u8>>" => again::<One, Lists>(text),
+        "OneOrMany<Vec<Same>, PreferOne>, written by Vec<Vec<Same>>, of Vec<Vec<u8>>" => {
+            apart::<One, Many, Lists>(text)
+        }
+        "Vec<Vec<Same>>, written by OneOrMany<Vec<Same>, PreferOne>, of Vec<Vec<u8>>" => {
+            apart::<Many, One, Lists>(text)
+        }
+        "PickFirst<(OneOrMany<Vec<Same>, PreferOne>, Vec<Vec<Same>>)>, written by Vec<Vec<Same>>, of Vec<Vec<u8>>" => {
+            apart::<Choice<One, Many>, Many, Lists>(text)
+        }
+        "PickFirst<(Vec<Vec<Same>>, OneOrMany<Vec<Same>, PreferOne>)>, written by Vec<Vec<Same>>, of Vec<Vec<u8>>" => {
+            apart::<Choice<Many, One>, Many, Lists>(text)
+        }
+        _ => panic!("no nest {nest}"),
+    }
+}
