@@ -1,13 +1,14 @@
 -- What is read as a list, and then put into a map or a set in turn.
 use Rattle.std.proofs.Common.{◌≡◌, ℕ, List, [], map, Result, Ok, Err, sym, ap, ◌∙◌}
 use Rattle.std.specs.declared.cmp.Ordering.{Ordering}
-use Rattle.sw_tree.specs.Meaning.{Meaning, list, meanings, parts-meanings}
+use Rattle.sw_tree.specs.Meaning.{Meaning, list, meanings}
+use Rattle.sw_tree.specs.Laws.Meaning.{parts-meanings}
 use Rattle.sw_tree.specs.Meant.{list_meaning, pair_meaning}
 use Rattle.sw_tree.specs.Placed.{placed, placed_at}
 use Rattle.sw_tree.specs.Ranks.{Order, IsOrderOf}
 use Rattle.sw_tree.specs.Seen.{Seen}
 use Rattle.sw_tree.specs.Sorted.{sorted, by_first, value_replaced, old_stays, sort_onto, sort_keys_onto}
-use Rattle.sw_tree.specs.SortedLaws.{sort_onto-put_all, sort_keys_onto-put_all}
+use Rattle.sw_tree.specs.Laws.Sorted.{sort_onto-put_all, sort_keys_onto-put_all}
 use Rattle.sw_tree.specs.Steps.{bind}
 use Rattle.sw_tree.specs.declared.mode.Mode.{Mode}
 use Rattle.sw_tree.specs.declared.fail.DeError.{DeError}

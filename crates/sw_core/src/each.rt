@@ -7,7 +7,7 @@ ghost use Rattle.sw_tree.specs.Building.{IsBuilt, IsPut};
 ghost use Rattle.sw_tree.specs.Meant.{list_meaning};
 ghost use Rattle.sw_tree.specs.Mode.{at_value};
 ghost use Rattle.sw_tree.specs.Placed.{placed, placed_notes};
-ghost use Rattle.sw_tree.specs.View.{seen, tree_of};
+ghost use Rattle.sw_tree.specs.Inner.View.{seen, tree_of};
 ghost use Rattle.sw_elem.specs.Answers.{IsRead, IsLogged};
 ghost use Rattle.sw_core.specs.Inner.Iterated.{Iterates};
 ghost use Rattle.sw_core.specs.Inner.Putting.{all_put};

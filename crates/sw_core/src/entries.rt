@@ -5,7 +5,7 @@ ghost use Rattle.sw_tree.specs.Building.{IsPut};
 ghost use Rattle.sw_tree.specs.Meant.{list_meaning, pair_meaning};
 ghost use Rattle.sw_tree.specs.Mode.{at_key, at_value};
 ghost use Rattle.sw_tree.specs.Placed.{placed, placed_notes};
-ghost use Rattle.sw_tree.specs.View.{seen, tree_of};
+ghost use Rattle.sw_tree.specs.Inner.View.{seen, tree_of};
 ghost use Rattle.sw_elem.specs.Answers.{IsRead, IsLogged};
 ghost use Rattle.sw_core.specs.Entries.{entries_writes, entries_reads, entries_spot, entries_skips};
 ghost use Rattle.sw_core.specs.Inner.Rows.{seen_reads, seen_logs, seen_turns, both, all_both};

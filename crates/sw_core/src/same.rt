@@ -52,7 +52,7 @@ impl<T: Deserialize> DeserializeAs<T> for Same {
 impl<T: Element> Adapter<T> for Same {
     ghost use Rattle.sw_check.specs.Form.{leaf};
     ghost use Rattle.sw_elem.specs.Lawful.{same_norm};
-    ghost use Rattle.sw_elem.specs.Leaf.{leaf_lawful};
+    ghost use Rattle.sw_elem.specs.Laws.Leaf.{leaf_lawful};
 
     ghost expr = { leaf T.known };
 

@@ -10,8 +10,9 @@ use mir.Val.{to_z, of_z}
 use Rattle.std.proofs.lemmas.Str.Parse.{IsNumeralModel, numerals_by_fold, not_in_digits, without_leading_plus_none, digits_value_short}
 use Rattle.sw_tree.specs.Number.{is_digit, value_from, value_of, AreFew}
 use Rattle.sw_elem.specs.Integer.{IsWide}
-use Rattle.sw_elem.specs.Decimal.{is_numeral, decimal_value, IsSpelled, IsSignedNumeral}
-use Rattle.sw_elem.specs.DecimalLaws.{is_numeral-decides, unsigned_value}
+use Rattle.sw_elem.specs.Decimal.{is_numeral, decimal_value}
+use Rattle.sw_elem.specs.Inner.Decimal.{IsSpelled, IsSignedNumeral}
+use Rattle.sw_elem.specs.Laws.Decimal.{is_numeral-decides, unsigned_value}
 
 -- no digits of which 128 bits hold the number
 pub unsigned_none : (s : List ℕ) → ¬ (IsNumeral 10 (without_leading_plus s) × (digits_value 10 (without_leading_plus s) < 2 ^ 128)) → IsSpelled false None (decimal_value false s)

@@ -6,7 +6,7 @@ use Rattle.sw_tree.specs.Tree.{Tree}
 use Rattle.sw_tree.specs.Seen.{Seen}
 use Rattle.sw_tree.specs.Placed.{placed}
 use Rattle.sw_tree.specs.Foreign.{is_plain, Foreign, foreign}
-use Rattle.sw_tree.specs.ForeignLaws.{none_foreign}
+use Rattle.sw_tree.specs.Laws.Foreign.{none_foreign}
 use Rattle.sw_tree.specs.ForeignSeen.{refusal_of, foreign_seen}
 use Rattle.sw_tree.specs.declared.mode.Mode.{Mode}
 use Rattle.sw_tree.specs.declared.fail.Refusal.{Refusal}

@@ -1,4 +1,5 @@
+pub mod Converted
 pub mod Decimal
-pub mod KeyTexts
 pub mod Foreigns
+pub mod KeyTexts
 pub mod KindSets

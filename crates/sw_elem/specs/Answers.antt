@@ -1,6 +1,6 @@
 -- What the calls that write and read answer, and what they log.
-use Rattle.std.specs.Prelude.{List, Some, Result}
-use Rattle.sw_tree.specs.Answered.{Answered, AnsweredFreely, read_cause}
+use Rattle.std.specs.Prelude.{Result, Some, List}
+use Rattle.sw_tree.specs.Answered.{Answered, read_cause, AnsweredFreely}
 use Rattle.sw_tree.specs.Building.{IsMade}
 use Rattle.sw_tree.specs.Logged.{Logged}
 use Rattle.sw_tree.specs.Tree.{Tree}

@@ -1,5 +1,5 @@
 -- The classes of the texts that the types show.
-use Rattle.std.specs.Prelude.{◌-◌, ◌^◌, Bool, true, false, codes}
+use Rattle.std.specs.Prelude.{codes, Bool, true, false, ◌-◌, ◌^◌}
 use Rattle.sw_check.specs.TextClass.{class_of}
 use Rattle.sw_check.specs.declared.class.TextClass.{TextClass}
 

@@ -1,13 +1,11 @@
 -- The texts of whole numbers.
-use Rattle.std.specs.Prelude.{◌≡◌, ℕ, ℤ, pos, nat_lt, Bool, true, false, ◌&&◌, if◌then◌else◌, List, [], length, Option, Some, None, FitsSigned}
-use Rattle.std.specs.Int.{w128}
+use Rattle.std.specs.Prelude.{ℕ, List, [], nat_lt, Bool, ◌&&◌, length, ℤ, pos, true, false, if◌then◌else◌, Option, Some, None}
 use Rattle.std.specs.Fmt.{signed_decimal}
 use Rattle.std.specs.Option.{option_and_then}
 use Rattle.std.specs.Str.{all_ascii_digits}
-use Rattle.std.specs.Str.Parse.{IsNumeral, digits_value, without_leading_plus, without_leading_sign, signed_digits_value}
+use Rattle.std.specs.Str.Parse.{digits_value, without_leading_plus, without_leading_sign, signed_digits_value}
 use Rattle.sw_tree.specs.Meaning.{Meaning, number}
-use Rattle.sw_elem.specs.Integer.{IsWide}
-use Rattle.sw_elem.specs.Numbers.{is_below, is_within, ranged}
+use Rattle.sw_elem.specs.Numbers.{ranged, is_below, is_within}
 
 -- in decimal, with a minus before a negative one
 abbrev pub decimal_shows : Meaning → List ℕ
@@ -34,14 +32,3 @@ unsigned_parses limit = decimal_parses false (is_below limit)
 -- and from minus the limit to below the limit
 abbrev pub signed_parses : ℕ → List ℕ → Option Meaning
 signed_parses limit = decimal_parses true (is_within limit)
-
--- the number exactly where there is one of 128 bits
-abbrev pub IsSpelled : Bool → Option ℤ → Option ℤ → Type 0
-IsSpelled signed (Some n) r = r ≡ Some n
-IsSpelled signed None r = (n : ℤ) → r ≡ Some n → IsWide signed n → ⊥
-
--- digits before which a sign may stand, of that value, which 128 bits hold
-pub record IsSignedNumeral (s : List ℕ) (n : ℤ) : Type 0 where
-  pub digits : IsNumeral 10 (without_leading_sign s)
-  pub value : n ≡ signed_digits_value 10 s
-  pub fits : FitsSigned w128 n

@@ -1,11 +1,9 @@
 -- What a writer and a reader are, as functions of meanings and trees in each mode, and the law of a reader.
-use Rattle.std.specs.Prelude.{◌≡◌, ℕ, ◌<◌, List, [], Result, Ok, Err}
-use Rattle.std.proofs.Common.{arith}
+use Rattle.std.specs.Prelude.{Result, ℕ, List, ◌≡◌, ◌<◌, Ok, Err, []}
 use Rattle.sw_tree.specs.Meaning.{Meaning}
 use Rattle.sw_tree.specs.Placed.{Note}
 use Rattle.sw_tree.specs.Proper.{IsNodeTree}
 use Rattle.sw_tree.specs.Tree.{Tree, size}
-use Rattle.sw_tree.specs.Tree as tree
 use Rattle.sw_tree.specs.declared.mode.Mode.{Mode}
 use Rattle.sw_tree.specs.declared.fail.SerError.{SerError}
 use Rattle.sw_tree.specs.declared.fail.DeError.{DeError}
@@ -38,12 +36,3 @@ own_spot m t = 0
 -- and passes nothing over
 abbrev pub no_skips : Skips
 no_skips m t = []
-
-pub own_spot-inside : (m : Mode) (t : Tree) → own_spot m t < size t
-own_spot-inside m tree.null = omega arith
-own_spot-inside m (tree.truth b) = omega arith
-own_spot-inside m (tree.int n) = omega arith
-own_spot-inside m (tree.text s) = omega arith
-own_spot-inside m (tree.bytes s) = omega arith
-own_spot-inside m (tree.list ts) = omega arith
-own_spot-inside m (tree.map es) = omega arith

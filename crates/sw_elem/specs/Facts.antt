@@ -1,5 +1,5 @@
 -- What is known of the types that write and read themselves.
-use Rattle.std.specs.Prelude.{Bool, true, false, ◌||◌}
+use Rattle.std.specs.Prelude.{Bool, ◌||◌, true, false}
 use Rattle.sw_tree.specs.Kinds.{is_kind}
 use Rattle.sw_tree.specs.declared.kinds.Kinds.{Kinds}
 use Rattle.sw_tree.specs.declared.mode.Kind.{Kind}

@@ -1,10 +1,10 @@
 -- How trees by themselves are written and read.
-use Rattle.std.specs.Prelude.{◌≡◌, ℕ, true, Option, Some, None, Result, Ok, Err}
+use Rattle.std.specs.Prelude.{Ok, Option, Some, None, Result, Err, ℕ, ◌≡◌, true}
 use Rattle.sw_tree.specs.Proper.{IsNodeTree}
 use Rattle.sw_tree.specs.Meaning.{Meaning}
 use Rattle.sw_tree.specs.Meaning as meaning
-use Rattle.sw_tree.specs.Tree.{Tree, null}
-use Rattle.sw_tree.specs.Foreign.{is_plain, Foreign, foreign}
+use Rattle.sw_tree.specs.Tree.{null, Tree}
+use Rattle.sw_tree.specs.Foreign.{Foreign, foreign, is_plain}
 use Rattle.sw_tree.specs.declared.fail.DeError.{DeError}
 use Rattle.sw_tree.specs.declared.fail.DeError.TheVariants as fail
 use Rattle.sw_elem.specs.Equations.{Writes, Reads, Spots}

@@ -1,5 +1,5 @@
 -- What a type of whole numbers keeps: it holds the numbers of a range, each as itself.
-use Rattle.std.specs.Prelude.{◌≡◌, ◌<◌, ◌^◌, ℤ, pos, negsuc, Bool, true, false, FitsSigned}
+use Rattle.std.specs.Prelude.{◌<◌, ◌^◌, ℤ, pos, negsuc, Bool, true, false, FitsSigned, ◌≡◌}
 use Rattle.std.specs.Int.{w128}
 use Rattle.sw_tree.specs.Meaning.{Meaning, number}
 

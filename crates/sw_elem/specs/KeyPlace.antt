@@ -1,5 +1,5 @@
 -- Numbers and truth values, for which a text may stand where a key was printed as one.
-use Rattle.std.specs.Prelude.{ℕ, List, Bool, true, false, ◌&&◌, not, if◌then◌else◌, Option, Some, None, Result}
+use Rattle.std.specs.Prelude.{Bool, true, false, ◌&&◌, not, ℕ, List, if◌then◌else◌, Option, Some, None, Result}
 use Rattle.std.specs.Option.{option_or, option_and_then}
 use Rattle.sw_tree.specs.Tree.{Tree, text}
 use Rattle.sw_tree.specs.declared.mode.Mode.{Mode}

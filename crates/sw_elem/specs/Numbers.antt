@@ -1,7 +1,7 @@
 -- Whole numbers by themselves.
-use Rattle.std.specs.Prelude.{ℕ, ℤ, pos, negsuc, Bool, false, nat_lt, if◌then◌else◌, Option, Some, None, Result, Ok}
+use Rattle.std.specs.Prelude.{Ok, ℕ, ℤ, pos, negsuc, Bool, false, nat_lt, if◌then◌else◌, Option, Some, None, Result}
 use Rattle.std.specs.Option.{ok_or}
-use Rattle.sw_tree.specs.Meaning.{Meaning, number}
+use Rattle.sw_tree.specs.Meaning.{number, Meaning}
 use Rattle.sw_tree.specs.Number.{key_number}
 use Rattle.sw_tree.specs.Steps.{bind}
 use Rattle.sw_tree.specs.Tree.{int_at}

@@ -9,9 +9,9 @@ use Rattle.sw_tree.specs.declared.mode.Kind.{Kind}
 use Rattle.sw_tree.specs.declared.mode.Mode.{Mode}
 use Rattle.sw_tree.specs.declared.fail.SerError.TheVariants.{Key}
 use Rattle.sw_tree.specs.declared.fail.DeError.TheVariants.{InvalidType}
-use Rattle.sw_elem.specs.Equations.{Writes, Reads, Spots, Skips}
 use Rattle.sw_tree.specs.Nodes.{kinds, HasKind, IsNoteIn}
 use Rattle.sw_tree.specs.Proper.{IsNodeTree}
+use Rattle.sw_elem.specs.Equations.{Writes, Reads, Spots, Skips}
 
 -- what reading back gives of a meaning
 abbrev pub Norm : Type 0

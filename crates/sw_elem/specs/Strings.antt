@@ -1,8 +1,8 @@
 -- A value by its text; so a text by itself, and a character. And nothing, by the null.
-use Rattle.std.specs.Prelude.{ℕ, List, [], Bool, ◌&&◌, ◌==◌, if◌then◌else◌, length, Option, Some, None, Ok}
+use Rattle.std.specs.Prelude.{ℕ, List, Ok, Option, [], Some, Bool, ◌&&◌, ◌==◌, length, if◌then◌else◌, None}
 use Rattle.std.specs.Option.{ok_or}
 use Rattle.std.specs.Str.{chars, is_utf8}
-use Rattle.sw_tree.specs.Meaning.{Meaning, nothing, text}
+use Rattle.sw_tree.specs.Meaning.{Meaning, text, nothing}
 use Rattle.sw_tree.specs.Steps.{bind}
 use Rattle.sw_tree.specs.Tree.{text_at, kind_of}
 use Rattle.sw_tree.specs.Tree as node

@@ -1,5 +1,5 @@
 -- What the calls of a text form answer, and its law.
-use Rattle.std.specs.Prelude.{◌≡◌, ℕ, List, Option, Some, None, option_map, Result}
+use Rattle.std.specs.Prelude.{Option, Some, None, Result, ◌≡◌, option_map, ℕ, List}
 use Rattle.std.specs.Str.{IsUtf8}
 use Rattle.sw_tree.specs.Answered.{AnsweredOption, AnsweredFreely}
 use Rattle.sw_tree.specs.Meaning.{Meaning}

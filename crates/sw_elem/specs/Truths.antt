@@ -1,8 +1,8 @@
 -- A truth value by itself, and its text.
-use Rattle.std.specs.Prelude.{ℕ, List, [], Bool, true, false, if◌then◌else◌, Option, Some, None, option_map, Ok}
+use Rattle.std.specs.Prelude.{Ok, ℕ, List, Bool, true, false, if◌then◌else◌, Option, Some, None, [], option_map}
 use Rattle.std.specs.Str.{bytes_eq}
 use Rattle.sw_tree.specs.Image.{bool_text}
-use Rattle.sw_tree.specs.Meaning.{Meaning, truth}
+use Rattle.sw_tree.specs.Meaning.{truth, Meaning}
 use Rattle.sw_tree.specs.Steps.{bind}
 use Rattle.sw_tree.specs.Tree.{truth_at}
 use Rattle.sw_tree.specs.Tree as node

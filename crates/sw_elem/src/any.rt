@@ -1,6 +1,6 @@
 ghost use Rattle.std.specs.Prelude.{◌≡◌, true};
 ghost use Rattle.sw_tree.specs.Proper.{IsNodeTree};
-ghost use Rattle.sw_tree.specs.ProperLaws.{IsNodeTree-prop};
+ghost use Rattle.sw_tree.specs.Laws.Proper.{IsNodeTree-prop};
 ghost use Rattle.sw_tree.specs.Foreign as foreign;
 
 use crate::element::Element;
@@ -84,7 +84,7 @@ impl Deserialize for Any {
     ghost use Rattle.std.specs.Prelude.{false};
     ghost use Rattle.sw_elem.specs.Equations.{no_skips};
     ghost use Rattle.sw_elem.specs.Foreign.{any_reads, any_spot};
-    ghost use Rattle.sw_elem.specs.ForeignLaws.{any_lawful};
+    ghost use Rattle.sw_elem.specs.Laws.Foreign.{any_lawful};
 
     const FREE: bool = false;
 
@@ -121,7 +121,7 @@ impl Deserialize for Any {
 impl Element for Any {
     ghost use Rattle.std.specs.Prelude.{refl};
     ghost use Rattle.sw_elem.specs.Facts.{any_facts};
-    ghost use Rattle.sw_elem.specs.AnyLeaf.{any_keeps};
+    ghost use Rattle.sw_elem.specs.Laws.AnyLeaf.{any_keeps};
 
     ghost known = { any_facts };
 

@@ -1,7 +1,8 @@
 //! The texts of whole numbers, of any width. Few digits are read in 64 bits, which is faster.
 
 ghost use Rattle.std.specs.Prelude.{◌≡◌, true, false, IfSome};
-ghost use Rattle.sw_elem.specs.Decimal.{decimal_value, IsSpelled, IsSignedNumeral};
+ghost use Rattle.sw_elem.specs.Decimal.{decimal_value};
+ghost use Rattle.sw_elem.specs.Inner.Decimal.{IsSpelled, IsSignedNumeral};
 
 use sw_tree::number;
 use sw_tree::whole::Whole;

@@ -2,7 +2,7 @@
 
 ghost use Rattle.std.specs.Prelude.{◌≡◌};
 ghost use Rattle.sw_tree.specs.Placed.{placed};
-ghost use Rattle.sw_tree.specs.View.{seen};
+ghost use Rattle.sw_tree.specs.Inner.View.{seen};
 ghost use Rattle.sw_elem.specs.Answers.{IsReadFreely};
 ghost use Rattle.sw_elem.specs.Decimal.{decimal_parses};
 ghost use Rattle.sw_elem.specs.Equations.{own_spot};
@@ -94,7 +94,7 @@ impl<N: Integer> Deserialize for N {
     ghost use Rattle.std.specs.Prelude.{true};
     ghost use Rattle.sw_elem.specs.Equations.{own_spot, no_skips};
     ghost use Rattle.sw_elem.specs.Numbers.{number_reads};
-    ghost use Rattle.sw_elem.specs.NumberLaws.{number_lawful};
+    ghost use Rattle.sw_elem.specs.Laws.Numbers.{number_lawful};
 
     const FREE: bool = true;
 
@@ -124,7 +124,7 @@ impl<N: Integer> Deserialize for N {
 impl<N: Integer> Element for N {
     ghost use Rattle.std.specs.Prelude.{refl};
     ghost use Rattle.sw_elem.specs.Facts.{number_facts};
-    ghost use Rattle.sw_elem.specs.KeyedLeaf.{number_keeps};
+    ghost use Rattle.sw_elem.specs.Laws.KeyedLeaf.{number_keeps};
 
     ghost known = { number_facts };
 
@@ -142,7 +142,7 @@ impl<N: Integer> Element for N {
 impl<N: Integer> TextForm for N {
     ghost use Rattle.std.specs.Prelude.{true};
     ghost use Rattle.sw_elem.specs.Decimal.{decimal_shows, decimal_parses};
-    ghost use Rattle.sw_elem.specs.DecimalLaws.{decimal_lawful};
+    ghost use Rattle.sw_elem.specs.Laws.Decimal.{decimal_lawful};
     ghost use Rattle.sw_elem.specs.Classes.{decimal_class};
 
     const FREE: bool = true;

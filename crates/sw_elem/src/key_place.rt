@@ -1,6 +1,6 @@
 ghost use Rattle.std.specs.Prelude.{◌≡◌};
 ghost use Rattle.std.specs.Option.{option_copied};
-ghost use Rattle.sw_tree.specs.View.{tree_of};
+ghost use Rattle.sw_tree.specs.Inner.View.{tree_of};
 ghost use Rattle.sw_elem.specs.KeyPlace as key_place;
 
 use sw_tree::mode::{Mode, Place, WireKind};

@@ -13,7 +13,7 @@ use sw_tree::fail::SerFail;
 impl TextForm for bool {
     ghost use Rattle.std.specs.Prelude.{true};
     ghost use Rattle.sw_elem.specs.Truths.{truth_shows, truth_parses};
-    ghost use Rattle.sw_elem.specs.TextLaws.{truth_lawful};
+    ghost use Rattle.sw_elem.specs.Laws.Text.{truth_lawful};
     ghost use Rattle.sw_elem.specs.Classes.{truth_class};
 
     const FREE: bool = true;
@@ -60,7 +60,7 @@ impl TextForm for bool {
 impl TextForm for char {
     ghost use Rattle.std.specs.Prelude.{true};
     ghost use Rattle.sw_elem.specs.Strings.{text_shows, character_parses};
-    ghost use Rattle.sw_elem.specs.TextLaws.{character_lawful};
+    ghost use Rattle.sw_elem.specs.Laws.Text.{character_lawful};
     ghost use Rattle.sw_elem.specs.Classes.{byte_class};
 
     const FREE: bool = true;
@@ -99,7 +99,7 @@ impl TextForm for char {
 impl TextForm for String {
     ghost use Rattle.std.specs.Prelude.{false};
     ghost use Rattle.sw_elem.specs.Strings.{text_shows, text_parses};
-    ghost use Rattle.sw_elem.specs.TextLaws.{text_lawful};
+    ghost use Rattle.sw_elem.specs.Laws.Text.{text_lawful};
     ghost use Rattle.sw_elem.specs.Classes.{byte_class};
 
     const FREE: bool = false;

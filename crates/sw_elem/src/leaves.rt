@@ -31,7 +31,7 @@ impl Deserialize for bool {
     ghost use Rattle.std.specs.Prelude.{true};
     ghost use Rattle.sw_elem.specs.Equations.{own_spot, no_skips};
     ghost use Rattle.sw_elem.specs.Truths.{truth_reads};
-    ghost use Rattle.sw_elem.specs.TextLaws.{truth_reading_lawful};
+    ghost use Rattle.sw_elem.specs.Laws.Text.{truth_reading_lawful};
 
     const FREE: bool = true;
 
@@ -61,7 +61,7 @@ impl Deserialize for bool {
 impl Element for bool {
     ghost use Rattle.std.specs.Prelude.{refl};
     ghost use Rattle.sw_elem.specs.Facts.{truth_facts};
-    ghost use Rattle.sw_elem.specs.KeyedLeaf.{truth_keeps};
+    ghost use Rattle.sw_elem.specs.Laws.KeyedLeaf.{truth_keeps};
 
     ghost known = { truth_facts };
 
@@ -90,7 +90,7 @@ impl Deserialize for char {
     ghost use Rattle.std.specs.Prelude.{true};
     ghost use Rattle.sw_elem.specs.Equations.{own_spot, no_skips};
     ghost use Rattle.sw_elem.specs.Strings.{character_reads};
-    ghost use Rattle.sw_elem.specs.TextLaws.{character_reading_lawful};
+    ghost use Rattle.sw_elem.specs.Laws.Text.{character_reading_lawful};
 
     const FREE: bool = true;
 
@@ -123,7 +123,7 @@ impl Deserialize for char {
 impl Element for char {
     ghost use Rattle.std.specs.Prelude.{refl};
     ghost use Rattle.sw_elem.specs.Facts.{text_facts};
-    ghost use Rattle.sw_elem.specs.TextLeaf.{character_keeps};
+    ghost use Rattle.sw_elem.specs.Laws.TextLeaf.{character_keeps};
 
     ghost known = { text_facts };
 
@@ -151,7 +151,7 @@ impl Deserialize for String {
     ghost use Rattle.std.specs.Prelude.{false};
     ghost use Rattle.sw_elem.specs.Equations.{own_spot, no_skips};
     ghost use Rattle.sw_elem.specs.Strings.{text_reads};
-    ghost use Rattle.sw_elem.specs.TextLaws.{text_reading_lawful};
+    ghost use Rattle.sw_elem.specs.Laws.Text.{text_reading_lawful};
 
     const FREE: bool = false;
 
@@ -184,7 +184,7 @@ impl Deserialize for String {
 impl Element for String {
     ghost use Rattle.std.specs.Prelude.{refl};
     ghost use Rattle.sw_elem.specs.Facts.{text_facts};
-    ghost use Rattle.sw_elem.specs.TextLeaf.{text_keeps};
+    ghost use Rattle.sw_elem.specs.Laws.TextLeaf.{text_keeps};
 
     ghost known = { text_facts };
 
@@ -212,7 +212,7 @@ impl Deserialize for () {
     ghost use Rattle.std.specs.Prelude.{true};
     ghost use Rattle.sw_elem.specs.Equations.{own_spot, no_skips};
     ghost use Rattle.sw_elem.specs.Strings.{nothing_reads};
-    ghost use Rattle.sw_elem.specs.TextLaws.{nothing_lawful};
+    ghost use Rattle.sw_elem.specs.Laws.Text.{nothing_lawful};
 
     const FREE: bool = true;
 
@@ -242,7 +242,7 @@ impl Deserialize for () {
 impl Element for () {
     ghost use Rattle.std.specs.Prelude.{refl};
     ghost use Rattle.sw_elem.specs.Facts.{nothing_facts};
-    ghost use Rattle.sw_elem.specs.TextLeaf.{nothing_keeps};
+    ghost use Rattle.sw_elem.specs.Laws.TextLeaf.{nothing_keeps};
 
     ghost known = { nothing_facts };
 

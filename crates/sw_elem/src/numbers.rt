@@ -8,7 +8,7 @@ ghost use Rattle.sw_tree.specs.Meant.{unsigned_meaning};
 ghost use Rattle.sw_tree.specs.Number.{key_number};
 ghost use Rattle.sw_tree.specs.Placed.{placed};
 ghost use Rattle.sw_tree.specs.Tree.{int, int_at};
-ghost use Rattle.sw_tree.specs.View.{seen, tree_of};
+ghost use Rattle.sw_tree.specs.Inner.View.{seen, tree_of};
 ghost use Rattle.sw_elem.specs.Equations.{own_spot};
 ghost use Rattle.sw_elem.specs.KeyPlace.{key_text, keyed_reads};
 ghost use Rattle.sw_elem.specs.Numbers as numbers;

@@ -51,7 +51,7 @@ impl Deserialize for Port {
     ghost use Rattle.sw_tree.specs.Meant.{IsBelow};
     ghost use Rattle.sw_elem.specs.Equations.{own_spot, no_skips};
     ghost use Rattle.sw_elem.specs.Numbers.{is_below, number_reads};
-    ghost use Rattle.sw_elem.specs.NumberLaws.{number_lawful, unsigned_integer};
+    ghost use Rattle.sw_elem.specs.Laws.Numbers.{number_lawful, unsigned_integer};
 
     const FREE: bool = true;
 
@@ -83,9 +83,9 @@ impl Element for Port {
     ghost use Rattle.std.proofs.Common.{lit≤};
     ghost use Rattle.sw_tree.specs.Meant.{IsBelow};
     ghost use Rattle.sw_elem.specs.Facts.{number_facts};
-    ghost use Rattle.sw_elem.specs.KeyedLeaf.{number_keeps};
+    ghost use Rattle.sw_elem.specs.Laws.KeyedLeaf.{number_keeps};
     ghost use Rattle.sw_elem.specs.Numbers.{is_below};
-    ghost use Rattle.sw_elem.specs.NumberLaws.{unsigned_integer};
+    ghost use Rattle.sw_elem.specs.Laws.Numbers.{unsigned_integer};
 
     ghost known = { number_facts };
 

@@ -1,5 +1,5 @@
 ghost use Rattle.std.specs.Prelude.{◌≡◌};
-ghost use Rattle.sw_tree.specs.View.{place_of};
+ghost use Rattle.sw_tree.specs.Inner.View.{place_of};
 
 use sw_tree::fail::{DeError, DeFail, Refusal};
 use sw_tree::view::View;

@@ -43,7 +43,7 @@ pub trait Serialize: Meant {
 pub trait Deserialize: Meant + Sized {
     ghost use Rattle.std.specs.Prelude.{◌≡◌, Bool, true};
     ghost use Rattle.sw_tree.specs.Placed.{placed, placed_notes};
-    ghost use Rattle.sw_tree.specs.View.{seen, tree_of};
+    ghost use Rattle.sw_tree.specs.Inner.View.{seen, tree_of};
     ghost use Rattle.sw_elem.specs.Equations.{Reads, Spots, Skips, LawfulReading};
     ghost use Rattle.sw_elem.specs.Answers.{IsRead, IsLogged, ReadsFreely};
 

@@ -8,7 +8,7 @@ impl Integer for i8 {
     ghost use Rattle.std.specs.Prelude.{◌^◌, true};
     ghost use Rattle.std.specs.Int.{w8};
     ghost use Rattle.sw_elem.specs.Numbers.{is_within};
-    ghost use Rattle.sw_elem.specs.NumberLaws.{signed_integer};
+    ghost use Rattle.sw_elem.specs.Laws.Numbers.{signed_integer};
 
     const SIGNED: bool = true;
 
@@ -34,7 +34,7 @@ impl Integer for i16 {
     ghost use Rattle.std.specs.Prelude.{◌^◌, true};
     ghost use Rattle.std.specs.Int.{w16};
     ghost use Rattle.sw_elem.specs.Numbers.{is_within};
-    ghost use Rattle.sw_elem.specs.NumberLaws.{signed_integer};
+    ghost use Rattle.sw_elem.specs.Laws.Numbers.{signed_integer};
 
     const SIGNED: bool = true;
 
@@ -60,7 +60,7 @@ impl Integer for i32 {
     ghost use Rattle.std.specs.Prelude.{◌^◌, true};
     ghost use Rattle.std.specs.Int.{w32};
     ghost use Rattle.sw_elem.specs.Numbers.{is_within};
-    ghost use Rattle.sw_elem.specs.NumberLaws.{signed_integer};
+    ghost use Rattle.sw_elem.specs.Laws.Numbers.{signed_integer};
 
     const SIGNED: bool = true;
 
@@ -86,7 +86,7 @@ impl Integer for i64 {
     ghost use Rattle.std.specs.Prelude.{◌^◌, true};
     ghost use Rattle.std.specs.Int.{w64};
     ghost use Rattle.sw_elem.specs.Numbers.{is_within};
-    ghost use Rattle.sw_elem.specs.NumberLaws.{signed_integer};
+    ghost use Rattle.sw_elem.specs.Laws.Numbers.{signed_integer};
 
     const SIGNED: bool = true;
 
@@ -112,7 +112,7 @@ impl Integer for i128 {
     ghost use Rattle.std.specs.Prelude.{◌^◌, true};
     ghost use Rattle.std.specs.Int.{w128};
     ghost use Rattle.sw_elem.specs.Numbers.{is_within};
-    ghost use Rattle.sw_elem.specs.NumberLaws.{signed_integer};
+    ghost use Rattle.sw_elem.specs.Laws.Numbers.{signed_integer};
 
     const SIGNED: bool = true;
 
@@ -135,7 +135,7 @@ impl Integer for isize {
     ghost use Rattle.std.specs.Prelude.{◌^◌, true};
     ghost use Rattle.std.specs.Int.{w64};
     ghost use Rattle.sw_elem.specs.Numbers.{is_within};
-    ghost use Rattle.sw_elem.specs.NumberLaws.{signed_integer};
+    ghost use Rattle.sw_elem.specs.Laws.Numbers.{signed_integer};
 
     const SIGNED: bool = true;
 

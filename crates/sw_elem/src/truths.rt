@@ -5,7 +5,7 @@ ghost use Rattle.std.specs.Option.{option_and_then};
 ghost use Rattle.sw_tree.specs.Meaning.{truth};
 ghost use Rattle.sw_tree.specs.Placed.{placed};
 ghost use Rattle.sw_tree.specs.Tree.{truth_at};
-ghost use Rattle.sw_tree.specs.View.{seen, tree_of};
+ghost use Rattle.sw_tree.specs.Inner.View.{seen, tree_of};
 ghost use Rattle.sw_elem.specs.Answers.{IsReadFreely};
 ghost use Rattle.sw_elem.specs.Equations.{own_spot};
 ghost use Rattle.sw_elem.specs.KeyPlace.{key_text, keyed_reads};

@@ -8,7 +8,7 @@ impl Integer for u8 {
     ghost use Rattle.std.specs.Prelude.{◌^◌, false};
     ghost use Rattle.std.proofs.Common.{lit≤};
     ghost use Rattle.sw_elem.specs.Numbers.{is_below};
-    ghost use Rattle.sw_elem.specs.NumberLaws.{unsigned_integer};
+    ghost use Rattle.sw_elem.specs.Laws.Numbers.{unsigned_integer};
 
     const SIGNED: bool = false;
 
@@ -34,7 +34,7 @@ impl Integer for u16 {
     ghost use Rattle.std.specs.Prelude.{◌^◌, false};
     ghost use Rattle.std.proofs.Common.{lit≤};
     ghost use Rattle.sw_elem.specs.Numbers.{is_below};
-    ghost use Rattle.sw_elem.specs.NumberLaws.{unsigned_integer};
+    ghost use Rattle.sw_elem.specs.Laws.Numbers.{unsigned_integer};
 
     const SIGNED: bool = false;
 
@@ -60,7 +60,7 @@ impl Integer for u32 {
     ghost use Rattle.std.specs.Prelude.{◌^◌, false};
     ghost use Rattle.std.proofs.Common.{lit≤};
     ghost use Rattle.sw_elem.specs.Numbers.{is_below};
-    ghost use Rattle.sw_elem.specs.NumberLaws.{unsigned_integer};
+    ghost use Rattle.sw_elem.specs.Laws.Numbers.{unsigned_integer};
 
     const SIGNED: bool = false;
 
@@ -86,7 +86,7 @@ impl Integer for u64 {
     ghost use Rattle.std.specs.Prelude.{◌^◌, false};
     ghost use Rattle.std.proofs.Common.{lit≤};
     ghost use Rattle.sw_elem.specs.Numbers.{is_below};
-    ghost use Rattle.sw_elem.specs.NumberLaws.{unsigned_integer};
+    ghost use Rattle.sw_elem.specs.Laws.Numbers.{unsigned_integer};
 
     const SIGNED: bool = false;
 
@@ -112,7 +112,7 @@ impl Integer for u128 {
     ghost use Rattle.std.specs.Prelude.{◌^◌, false};
     ghost use Rattle.std.proofs.Common.{lit≤};
     ghost use Rattle.sw_elem.specs.Numbers.{is_below};
-    ghost use Rattle.sw_elem.specs.NumberLaws.{unsigned_integer};
+    ghost use Rattle.sw_elem.specs.Laws.Numbers.{unsigned_integer};
 
     const SIGNED: bool = false;
 
@@ -135,7 +135,7 @@ impl Integer for usize {
     ghost use Rattle.std.specs.Prelude.{◌^◌, false};
     ghost use Rattle.std.proofs.Common.{lit≤};
     ghost use Rattle.sw_elem.specs.Numbers.{is_below};
-    ghost use Rattle.sw_elem.specs.NumberLaws.{unsigned_integer};
+    ghost use Rattle.sw_elem.specs.Laws.Numbers.{unsigned_integer};
 
     const SIGNED: bool = false;
 

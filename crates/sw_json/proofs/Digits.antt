@@ -4,15 +4,15 @@ use Rattle.std.proofs.lemmas.Bool.Decides.{nat_tests}
 use Rattle.std.specs.Fmt.{digits, digits_onto, digit_glyph, decimal, signed_decimal}
 use Rattle.sw_tree.specs.Tree.{int, text}
 use Rattle.sw_json.specs.Bytes.{is_plain}
-use Rattle.sw_json.specs.Text.{escaped, json_text, key_text}
-use Rattle.sw_json.specs.Pushed.{IsPushed}
+use Rattle.sw_json.specs.Text.{escaped, json_text}
+use Rattle.sw_json.specs.Inner.Text.{key_text}
+use Rattle.sw_json.specs.Inner.Pushed.{IsPushed, joined}
 use Rattle.sw_tree.specs.declared.fail.PrintError.{PrintError}
-use Rattle.sw_json.specs.Laws.Texts.{quoted_text}
+use Rattle.sw_json.proofs.Texts.{quoted_text}
 use Rattle.sw_json.proofs.Runs.{escape_plain}
 use Rattle.sw_json.specs.declared.turn.Turn.{Turn}
 use Rattle.sw_json.specs.declared.turn.Turn.TheVariants.{Root, First, Item, FirstKey, Key, Value}
-use Rattle.sw_json.specs.Turns.{is_key, separator, piece}
-use Rattle.sw_json.specs.Pushed.{joined}
+use Rattle.sw_json.specs.Inner.Turns.{is_key, separator, piece}
 
 -- a text that needs no escape
 abbrev IsOwn : List ℕ → Type 0

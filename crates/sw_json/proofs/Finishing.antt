@@ -5,9 +5,9 @@ use Rattle.sw_tree.specs.Short.{IsLength, IsShort}
 use Rattle.sw_tree.specs.Wires.{IsPrinted}
 use Rattle.sw_tree.specs.declared.fail.PrintError.{PrintError}
 use Rattle.sw_json.specs.Text.{json_text}
-use Rattle.sw_json.specs.Written.{Written, fresh, put}
-use Rattle.sw_json.specs.Laws.ShortTexts.{text_short}
-use Rattle.sw_json.specs.Laws.Writing.{fresh_text}
+use Rattle.sw_json.specs.Inner.Written.{Written, fresh, put}
+use Rattle.sw_json.proofs.ShortTexts.{text_short}
+use Rattle.sw_json.proofs.Writing.{fresh_text}
 
 pub whole : (x : Result (Vec ℕ Global) PrintError) (w : Written) (t : Tree) → w ≡ put t fresh → IsPrinted x w.text → IsPrinted x (json_text t)
 whole x w t e h = subst (IsPrinted x) (fresh_text w t e) h

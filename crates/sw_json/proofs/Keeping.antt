@@ -4,9 +4,9 @@ use Rattle.std.proofs.lemmas.List.{reverse-append}
 use Rattle.sw_tree.specs.declared.fail.PrintError.{PrintError}
 use Rattle.sw_tree.specs.declared.fail.PrintError.TheVariants.{Key, Memory}
 use Rattle.sw_json.proofs.Pushing.{none_onto}
-use Rattle.sw_json.specs.Pushed.{IsPushed, joined}
-use Rattle.sw_json.specs.Kept.{IsKept}
-use Rattle.sw_json.specs.Written.{shown}
+use Rattle.sw_json.specs.Inner.Pushed.{IsPushed, joined}
+use Rattle.sw_json.specs.Inner.Kept.{IsKept}
+use Rattle.sw_json.specs.Inner.Written.{shown}
 
 onto-shown : (before : List ℕ) (r : Option (List ℕ)) → option_map (λ s. before ++ s) r ≡ joined (Some before) r
 onto-shown before None = refl

@@ -2,7 +2,7 @@
 use Rattle.std.proofs.Common.{◌≡◌, ℕ, List, ◌++◌, refl, ap, ◌∙◌, append_assoc, Option, Some, None, option_map, Result, Ok, Err}
 use Rattle.sw_tree.specs.declared.fail.PrintError.{PrintError}
 use Rattle.sw_tree.specs.declared.fail.PrintError.TheVariants.{Key, Memory}
-use Rattle.sw_json.specs.Pushed.{IsPushed, joined}
+use Rattle.sw_json.specs.Inner.Pushed.{IsPushed, joined}
 
 abbrev pub Done : Type 0
 Done = Result (Unit {0}) PrintError

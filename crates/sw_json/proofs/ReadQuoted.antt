@@ -7,12 +7,13 @@ use Rattle.std.specs.Str.{IsUtf8, is_utf8}
 use Rattle.std.proofs.lemmas.Str.{is_utf8-from_IsUtf8, IsUtf8-from_is_utf8}
 use Rattle.sw_json.specs.Bytes.{is_plain, front, behind}
 use Rattle.sw_json.specs.Quoted.{IsQuoted, has_escape, content, with_spelling, quoted}
-use Rattle.sw_json.specs.QuotedParts.{spelling_in, text_in, is_escaped, parts}
-use Rattle.sw_json.specs.Unescaping.{unescaped}
+use Rattle.sw_json.specs.Inner.QuotedParts.{spelling_in, text_in, is_escaped, parts}
+use Rattle.sw_json.specs.Inner.Unescaping.{unescaped}
 use Rattle.sw_json.specs.declared.quoted.Quoted.{Quoted}
 use Rattle.sw_json.specs.Laws.Fronts.{split, front_passes, behind_is}
 use Rattle.sw_tree.specs.Laws.Options.{some_is, none_some}
-use Rattle.sw_json.specs.Laws.Quoting.{spelling_taken, quoted_taken, unescaped_plain, plain_has_none}
+use Rattle.sw_json.specs.Laws.Quoting.{spelling_taken, quoted_taken}
+use Rattle.sw_json.proofs.Quoting.{unescaped_plain, plain_has_none}
 use Rattle.sw_json.proofs.Unescapes.{before_none, run_more, closed_there, ended_there, stuck_there}
 
 abbrev pub Shown : Type 0

@@ -3,10 +3,10 @@ use Rattle.std.proofs.Common.{◌≡◌, ℕ, suc, Bool, true, false, cond, eqb,
 use Rattle.std.proofs.lemmas.Bool.Decides.{nat_tests}
 use Rattle.std.proofs.lemmas.List.{append-nil}
 use Rattle.sw_json.specs.Bytes.{is_plain, front, behind}
-use Rattle.sw_json.specs.Plain.{ArePlain}
+use Rattle.sw_json.specs.Inner.Plain.{ArePlain}
 use Rattle.sw_json.specs.Text.{escape_of, escaped, json_text}
 use Rattle.sw_tree.specs.Tree.{text}
-use Rattle.sw_json.specs.Laws.Texts.{quoted_text}
+use Rattle.sw_json.proofs.Texts.{quoted_text}
 
 pub escape_plain : (b : ℕ) → is_plain b ≡ true → escape_of b ≡ b ∷ []
 unfolding escape_of is_plain

@@ -9,11 +9,11 @@ use Rattle.sw_tree.specs.Number.{value_from, value_of, whole_of}
 use Rattle.sw_json.specs.Token.{Token}
 use Rattle.sw_json.specs.Bytes.{is_digit, is_leading, front, behind}
 use Rattle.sw_json.specs.Grammar.{IsNumber}
-use Rattle.sw_json.specs.Short.{IsShortInt, IsShort}
+use Rattle.sw_json.specs.Inner.Short.{IsShortInt, IsShort}
 use Rattle.sw_json.specs.Laws.Fronts.{split, front_passes, and_right}
 use Rattle.sw_json.specs.Laws.Numbers.{leading_isnt_minus}
 use Rattle.sw_json.specs.Laws.Lexemes.{found}
-use Rattle.sw_json.specs.Laws.WholeNumbers.{digits_value}
+use Rattle.sw_json.proofs.WholeNumbers.{digits_value}
 
 -- ---- the first digit
 

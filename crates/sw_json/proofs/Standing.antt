@@ -13,10 +13,10 @@ use Rattle.sw_json.specs.Raw.{Raw, RawItems, no_items, item, RawEntries, no_entr
 use Rattle.sw_json.specs.Raw as raw
 use Rattle.sw_json.specs.Quoted.{has_escape}
 use Rattle.sw_json.specs.Machine.{Level, in_list, in_map, State, value, fresh_list, fresh_map, name, colon, after, push, enter, step_value, step_fresh_list, step_fresh_map, step_name, step_colon, step_after, step, root}
-use Rattle.sw_json.specs.Place.{place_value, place_step, place_end}
+use Rattle.sw_json.specs.Inner.Place.{place_value, place_step, place_end}
 use Rattle.sw_json.specs.Shape.{shape_of, items_shape, entries_shape}
 use Rattle.sw_json.specs.Escaped.{quote_escaped, escaped, items_escaped, entries_escaped}
-use Rattle.sw_json.specs.Building.{effect, fault_of, number_fault_of}
+use Rattle.sw_json.specs.Inner.Building.{effect, fault_of, number_fault_of}
 use Rattle.sw_tree.specs.declared.fail.WireError.{WireError}
 use Rattle.sw_tree.specs.declared.fail.WireError.TheVariants.{TooDeep}
 use Rattle.sw_tree.specs.Number.{key_number}

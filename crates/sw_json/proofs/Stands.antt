@@ -4,7 +4,7 @@ use Rattle.std.specs.Prelude.{slice_range, Result, Ok, Err, is_some, option_map,
 use Rattle.std.specs.Option.{option_or}
 use Rattle.std.proofs.lemmas.Bool.Decides.{nat_tests}
 use Rattle.std.proofs.lemmas.List.{nil_from_length}
-use Rattle.sw_tree.specs.WireLaws.{judged_first}
+use Rattle.sw_tree.specs.Laws.Wires.{judged_first}
 use Rattle.sw_tree.specs.Laws.Options.{some_is, map_some}
 use Rattle.sw_tree.specs.Tree.{Tree}
 use Rattle.sw_tree.specs.Builder.{Built}
@@ -17,15 +17,16 @@ use Rattle.sw_json.specs.Bytes.{front, is_blank}
 use Rattle.sw_json.specs.Grammar.{skip, Front}
 use Rattle.sw_json.specs.Lexing.{is_empty, lexeme, next_token}
 use Rattle.sw_json.specs.Machine.{State, value, step, root}
-use Rattle.sw_json.specs.Place.{place_step, place_end, Leads}
+use Rattle.sw_json.specs.Inner.Place.{place_step, place_end, Leads}
 use Rattle.sw_tree.specs.Faults.{first, judged_by}
-use Rattle.sw_json.specs.Building.{effect, fault_of, Fits, CanBuild, Builds}
+use Rattle.sw_json.specs.Inner.Building.{effect, fault_of, Fits, CanBuild, Builds}
 use Rattle.sw_json.specs.Spelled.{HasEscaped, completed, raw_of, judged, spelled}
 use Rattle.sw_json.specs.declared.place.Place.{Place}
 use Rattle.sw_json.specs.declared.place.Place.TheVariants.{Value}
 use Rattle.sw_json.specs.declared.place.Open.{Open}
 use Rattle.sw_json.specs.Laws.Fronts.{split}
 use Rattle.sw_json.specs.Laws.Lexemes.{taken}
+use Rattle.sw_json.proofs.Completion as incompletion
 use Rattle.sw_json.specs.Laws.Completion as completion
 use Rattle.sw_json.proofs.Standing.{is_none, shape, shape_is, no_end, is_end, depth_of, depth_is, built, levels, input_is, root_side, no_root, list_can_close, map_can_close, root_built, built_step, faults, whole, IsFirst, first_step, root_first}
 
@@ -52,7 +53,7 @@ at_start bytes = record {
   parts = refl;
   fuel = length bytes;
   enough = omega arith;
-  spells = completion.at_start bytes;
+  spells = incompletion.at_start bytes;
 }
 
 -- ---- what the code sees
@@ -138,11 +139,11 @@ fits_at bytes before ahead rest off s next t e o n f h = tt
 
 one_more : (n end : ℕ) (s next : State) (bytes : List ℕ) (y : Token × List ℕ) → length bytes ≤ n → next_token end bytes ≡ Some y → step s y.0 ≡ Some next → completed n end s bytes ≡ completed (n - 1) end next y.1
 one_more zero end s next bytes y k h e = absurd (omega (arith, completion.shorter end bytes y h))
-one_more (suc n) end s next bytes y k h e = rw sub-one (completion.one_more n end s next bytes y h e)
+one_more (suc n) end s next bytes y k h e = rw sub-one (incompletion.one_more n end s next bytes y h e)
 
 refused : (n end : ℕ) (s : State) (bytes : List ℕ) (y : Token × List ℕ) → length bytes ≤ n → next_token end bytes ≡ Some y → step s y.0 ≡ None → completed n end s bytes ≡ None
 refused zero end s bytes y k h e = absurd (omega (arith, completion.shorter end bytes y h))
-refused (suc n) end s bytes y k h e = completion.refused n end s bytes y h e
+refused (suc n) end s bytes y k h e = incompletion.refused n end s bytes y h e
 
 pub none_judged : (bytes : List ℕ) → raw_of 0 bytes ≡ None → spelled bytes ≡ Err wire.Syntax
 unfolding spelled
@@ -221,13 +222,13 @@ module _ (bytes : List ℕ) (place : Place) (opens : List Open) (fault : Option 
   cant_come t behind h e = was.spells ∙ refused was.fuel (0 + length bytes) was.state rest (t, behind) was.enough h (is_none shape (step was.state t) (shape_is was.state t ∙ same_step t ∙ e))
 
   pub no_lexeme : next_token (0 + length bytes) rest ≡ None → is_empty (skip rest) ≡ false → raw_of 0 bytes ≡ None
-  no_lexeme h e = was.spells ∙ completion.stuck was.fuel (0 + length bytes) was.state rest h e
+  no_lexeme h e = was.spells ∙ incompletion.stuck was.fuel (0 + length bytes) was.state rest h e
 
   pub not_end : skip rest ≡ [] → place_end place opens ≡ false → raw_of 0 bytes ≡ None
-  not_end h e = was.spells ∙ completion.ended was.fuel (0 + length bytes) was.state rest h ∙ no_end was.state (same_end ∙ e)
+  not_end h e = was.spells ∙ incompletion.ended was.fuel (0 + length bytes) was.state rest h ∙ no_end was.state (same_end ∙ e)
 
   finished : skip rest ≡ [] → place_end place opens ≡ true → (r : Raw) × (raw_of 0 bytes ≡ Some r) × (root was.state ≡ Some r)
-  finished h e = let n = is_end was.state (same_end ∙ e) in (n.0, was.spells ∙ completion.ended was.fuel (0 + length bytes) was.state rest h ∙ n.1, n.1)
+  finished h e = let n = is_end was.state (same_end ∙ e) in (n.0, was.spells ∙ incompletion.ended was.fuel (0 + length bytes) was.state rest h ∙ n.1, n.1)
 
   pub faulty : (f : WireError) → skip rest ≡ [] → place_end place opens ≡ true → fault ≡ Some f → spelled bytes ≡ Err f
   faulty f h e z =

@@ -13,7 +13,7 @@ use Rattle.std.specs.List.{list_all, prefix_len}
 use lib.Lanes.{chunk, zip2, mask_l, top}
 use lib.Count.{count_trailing_zeros}
 use Rattle.sw_json.specs.Bytes.{is_plain, front, behind}
-use Rattle.sw_json.specs.Plain.{is_plain_ascii, ArePlain}
+use Rattle.sw_json.specs.Inner.Plain.{is_plain_ascii, ArePlain}
 use Rattle.sw_json.specs.Laws.Fronts.{and_left, and_right, front_passes}
 
 -- ---- the mask of a vector

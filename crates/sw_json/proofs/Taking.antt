@@ -10,19 +10,19 @@ use Rattle.sw_tree.specs.Builder.{Built, added, longer, closed, CanClose}
 use Rattle.sw_tree.specs.declared.fail.WireError.{WireError}
 use Rattle.sw_tree.specs.Number.{key_number}
 use Rattle.sw_tree.specs.Faults.{int_of}
-use Rattle.sw_json.specs.Short.{IsShort}
+use Rattle.sw_json.specs.Inner.Short.{IsShort}
 use Rattle.sw_json.specs.Token.{Quote, Token}
 use Rattle.sw_json.specs.Bytes.{is_plain, front, behind}
 use Rattle.sw_json.specs.Quoted.{has_escape}
 use Rattle.sw_json.specs.Grammar.{skip}
 use Rattle.sw_json.specs.Lexing.{lexeme, next_token, text_token}
-use Rattle.sw_json.specs.Building.{effect, fault_of, number_fault_of, open_fault_of, Fits, CanBuild, Builds}
-use Rattle.sw_json.specs.Quick.{CanTake, Took, Rests, Takes, opening_byte, closing_byte}
-use Rattle.sw_json.specs.Place.{place_step, outer, opening, closing}
+use Rattle.sw_json.specs.Inner.Building.{effect, fault_of, number_fault_of, open_fault_of, Fits, CanBuild, Builds}
+use Rattle.sw_json.specs.Inner.Quick.{CanTake, Took, Rests, Takes, opening_byte, closing_byte}
+use Rattle.sw_json.specs.Inner.Place.{place_step, outer, opening, closing}
 use Rattle.sw_json.specs.declared.place.Place.{Place}
 use Rattle.sw_json.specs.declared.place.Open.{Open}
 use Rattle.sw_json.specs.declared.place.Open.TheVariants.{List as OfList, Map as OfMap}
-use Rattle.sw_json.specs.Laws.Lexemes.{text_read}
+use Rattle.sw_json.proofs.Lexemes.{text_read}
 use Rattle.sw_json.proofs.ReadQuoted.{ascii_read, run_unslashed}
 use Rattle.sw_json.proofs.Stands.{Stands, turn}
 

@@ -6,9 +6,10 @@ use Rattle.std.specs.Prelude.{option_and_then}
 use Rattle.std.specs.Char.{encode_utf8}
 use Rattle.sw_json.specs.Bytes.{is_plain, front, behind, Stops}
 use Rattle.sw_json.specs.Quoted.{escape_at, piece_at, at_quote, quote_or, before, content}
-use Rattle.sw_json.specs.Unescaping.{unescaped}
+use Rattle.sw_json.specs.Inner.Unescaping.{unescaped}
 use Rattle.sw_json.specs.Laws.Fronts.{split, behind_stops}
-use Rattle.sw_json.specs.Laws.Quoting.{piece_shorter, plain_byte}
+use Rattle.sw_json.proofs.Quoting.{piece_shorter}
+use Rattle.sw_json.specs.Laws.Quoting.{plain_byte}
 
 empty : (n : ℕ) (bs : List ℕ) → bs ≡ [] → content n bs ≡ None
 unfolding content piece_at

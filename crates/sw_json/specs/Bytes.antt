@@ -1,5 +1,5 @@
 -- Classes of bytes, and runs of bytes.
-use Rattle.std.specs.Prelude.{◌≡◌, ℕ, List, [], ◌∷◌, Bool, not, ◌||◌, ◌&&◌, ◌==◌, nat_le, false, Option, Some, None, if◌then◌else◌}
+use Rattle.std.specs.Prelude.{ℕ, Bool, ◌||◌, ◌==◌, not, ◌&&◌, nat_le, ◌≡◌, List, [], ◌∷◌, false, if◌then◌else◌, Option, Some, None}
 -- DIGIT and digit1-9, section 6
 unfoldable pub use Rattle.sw_tree.specs.Number.{is_digit, is_leading}
 

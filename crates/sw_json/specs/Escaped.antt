@@ -1,7 +1,7 @@
 -- How long the texts with escapes are together, in bytes of UTF-8.
-use Rattle.std.specs.Prelude.{ℕ, ◌+◌, length, if◌then◌else◌}
+use Rattle.std.specs.Prelude.{ℕ, length, if◌then◌else◌, ◌+◌}
 use Rattle.sw_json.specs.Token.{Quote}
-use Rattle.sw_json.specs.Raw.{Raw, null, truth, number, text, list, map, RawItems, no_items, item, RawEntries, no_entries, entry}
+use Rattle.sw_json.specs.Raw.{text, Raw, null, truth, number, list, map, RawItems, no_items, item, RawEntries, no_entries, entry}
 use Rattle.sw_json.specs.Quoted.{has_escape}
 
 -- of a text, whose spelling may hold a backslash

@@ -1,7 +1,7 @@
 -- Which bytes spell a token, a list of tokens, and a raw tree (RFC 8259).
-use Rattle.std.specs.Prelude.{◌≡◌, ℕ, ◌+◌, ◌-◌, ◌⊎◌, List, [], ◌∷◌, ◌++◌, length, true, false, codes}
+use Rattle.std.specs.Prelude.{◌≡◌, ℕ, ◌⊎◌, List, [], ◌∷◌, true, ◌-◌, ◌++◌, codes, false, length, ◌+◌}
 use Rattle.std.specs.List.{list_all}
-use Rattle.sw_json.specs.Bytes.{is_blank, is_digit, is_leading, is_number_byte, Stops, behind}
+use Rattle.sw_json.specs.Bytes.{is_digit, is_leading, is_number_byte, Stops, is_blank, behind}
 use Rattle.sw_json.specs.Quoted.{IsQuoted}
 use Rattle.sw_json.specs.Token.{Token}
 use Rattle.sw_json.specs.Raw.{Raw, tokens}

@@ -1,8 +1,8 @@
 -- Which trees are images in JSON: there is no byte string, and each key is a text; and which have no image.
 use Rattle.std.specs.Prelude.{◌⊎◌}
 use Rattle.std.specs.Str.{IsUtf8}
-use Rattle.sw_tree.specs.NumberLaws.{IsInRange}
-use Rattle.sw_tree.specs.Tree.{Tree, null, truth, int, text, bytes, list, map, Trees, no_trees, tree, Entries, no_entries, entry}
+use Rattle.sw_tree.specs.Tree.{Tree, text, null, truth, int, bytes, list, map, Trees, no_trees, tree, Entries, no_entries, entry}
+use Rattle.sw_tree.specs.Number.{IsInRange}
 
 -- a text that is UTF-8
 abbrev pub IsKey : Tree → Type 0

@@ -1,8 +1,8 @@
 -- The tokens of bytes, computed: each is decided at the front of what is left.
-use Rattle.std.specs.Prelude.{ℕ, zero, suc, ◌-◌, List, [], ◌∷◌, length, Option, Some, None, option_map, option_and_then, Bool, true, false, not, ◌==◌, ◌||◌, ◌&&◌, if◌then◌else◌, codes}
+use Rattle.std.specs.Prelude.{ℕ, List, [], ◌∷◌, Bool, false, ◌||◌, ◌==◌, if◌then◌else◌, true, ◌&&◌, not, Option, Some, None, option_map, codes, ◌-◌, length, zero, suc, option_and_then}
 use Rattle.std.specs.List.{list_all}
 use Rattle.sw_json.specs.Token.{Token}
-use Rattle.sw_json.specs.Bytes.{is_digit, is_leading, is_number_byte, front, behind, behind_word}
+use Rattle.sw_json.specs.Bytes.{is_leading, is_digit, front, behind, behind_word, is_number_byte}
 use Rattle.sw_json.specs.Quoted.{quoted}
 use Rattle.sw_json.specs.Grammar.{skip}
 pub use Rattle.sw_tree.specs.Number.{is_empty}

@@ -1,11 +1,7 @@
 pub mod Token
 pub mod Raw
 pub mod Bytes
-pub mod Class
-pub mod Plain
 pub mod Quoted
-pub mod QuotedParts
-pub mod Unescaping
 pub mod Grammar
 pub mod Lexing
 pub mod Machine
@@ -13,14 +9,6 @@ pub mod Shape
 pub mod Escaped
 pub mod Spelled
 pub mod Text
-pub mod Lexeme
-pub mod Place
-pub mod Building
-pub mod Short
-pub mod Quick
-pub mod Pushed
-pub mod Turns
-pub mod Written
-pub mod Kept
 pub mod Images
+pub mod Inner
 pub mod Laws

@@ -1,7 +1,7 @@
 -- The tokens of a raw tree, read one after another: what is open, and what may come next.
-use Rattle.std.specs.Prelude.{ℕ, List, [], ◌∷◌, Option, Some, None, option_and_then}
+use Rattle.std.specs.Prelude.{ℕ, List, Option, Some, None, ◌∷◌, [], option_and_then}
 use Rattle.sw_json.specs.Token.{Quote, Token}
-use Rattle.sw_json.specs.Raw.{Raw, RawItems, no_items, item, RawEntries, no_entries, entry}
+use Rattle.sw_json.specs.Raw.{RawItems, RawEntries, Raw, no_items, item, no_entries, entry}
 use Rattle.sw_json.specs.Raw as raw
 
 -- what is open: a list with its items up to the last comma, or a map with its entries up to there and the name at hand; with its offset

@@ -1,6 +1,6 @@
 -- The spelling of a text between its quotation marks, by RFC 8259, section 7.
-use Rattle.std.specs.Prelude.{◌≡◌, ℕ, zero, suc, ◌+◌, ◌-◌, ◌*◌, List, [], ◌∷◌, ◌++◌, length, take, Bool, true, false, ◌||◌, ◌&&◌, ◌==◌, if◌then◌else◌, Option, Some, None, option_map, option_and_then}
-use Rattle.std.specs.Char.{encode_utf8, digit_value, is_digit}
+use Rattle.std.specs.Prelude.{ℕ, Bool, ◌||◌, ◌==◌, if◌then◌else◌, ◌&&◌, ◌+◌, ◌*◌, ◌≡◌, true, false, List, [], ◌∷◌, ◌++◌, Option, Some, None, option_and_then, option_map, zero, suc, ◌-◌, length, take}
+use Rattle.std.specs.Char.{is_digit, digit_value, encode_utf8}
 use Rattle.std.specs.Char.Utf16.{is_high_surrogate, is_low_surrogate, surrogate_pair_char}
 use Rattle.std.specs.Str.{IsUtf8, is_utf8}
 use Rattle.sw_json.specs.Bytes.{is_plain}
@@ -84,7 +84,6 @@ has_escape [] = false
 has_escape (b ∷ bs) = (b == 92) || has_escape bs
 
 -- ---- the same, computed: each of these answers with what is behind it
-
 -- the code of four digits
 abbrev pub hex_at : List ℕ → Option (ℕ × List ℕ)
 hex_at (a ∷ b ∷ c ∷ d ∷ k) = if are_hex (hex a b c d) then Some (code (hex a b c d), k) else None

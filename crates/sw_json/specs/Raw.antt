@@ -1,5 +1,5 @@
 -- A raw tree: each node has the offset of its first byte, and numbers and texts have their spelling.
-use Rattle.std.specs.Prelude.{ℕ, List, ◌∷◌, Bool}
+use Rattle.std.specs.Prelude.{ℕ, List, Bool, ◌∷◌}
 use Rattle.sw_json.specs.Token.{Quote, Token}
 
 mutual

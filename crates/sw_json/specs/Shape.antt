@@ -2,7 +2,7 @@
 use Rattle.sw_tree.specs.Number.{key_number}
 use Rattle.sw_tree.specs.Raw as shape
 use Rattle.sw_json.specs.Token.{Quote}
-use Rattle.sw_json.specs.Raw.{Raw, null, truth, number, text, list, map, RawItems, no_items, item, RawEntries, no_entries, entry}
+use Rattle.sw_json.specs.Raw.{Raw, text, null, truth, number, list, map, RawItems, no_items, item, RawEntries, no_entries, entry}
 
 abbrev pub quote_shape : Quote → shape.Raw
 quote_shape q = shape.text q.at q.text

@@ -1,5 +1,5 @@
 -- What bytes spell.
-use Rattle.std.specs.Prelude.{◌≡◌, ℕ, ◌+◌, List, [], length, Option, Some, None, option_and_then, Result, Err}
+use Rattle.std.specs.Prelude.{◌≡◌, ℕ, List, Option, option_and_then, ◌+◌, [], length, Some, None, Result, Err}
 use Rattle.sw_tree.specs.Tree.{Tree}
 use Rattle.sw_tree.specs.Raw as shape
 use Rattle.sw_tree.specs.Faults as fault
@@ -10,7 +10,7 @@ use Rattle.sw_json.specs.Raw.{Raw}
 use Rattle.sw_json.specs.Grammar.{Spells}
 use Rattle.sw_json.specs.Shape.{shape_of}
 use Rattle.sw_json.specs.Lexing.{lex}
-use Rattle.sw_json.specs.Machine.{State, value, run}
+use Rattle.sw_json.specs.Machine.{State, run, value}
 use Rattle.sw_json.specs.Escaped.{escaped}
 
 -- The bytes spell a JSON raw tree, which has that shape.

@@ -1,14 +1,12 @@
 -- The one compact JSON text of a tree, by RFC 8259, with no whitespace.
 --
 -- Each definition takes what follows the text as its last argument.
-use Rattle.std.specs.Prelude.{ℕ, ◌/◌, ◌%◌, List, [], ◌∷◌, ◌++◌, true, false, ◌==◌, nat_lt, if◌then◌else◌, Option, option_map, codes}
+use Rattle.std.specs.Prelude.{ℕ, ◌/◌, ◌%◌, List, [], ◌∷◌, ◌++◌, ◌==◌, nat_lt, if◌then◌else◌, codes, true, false, Option}
 use Rattle.std.specs.Char.{digit_char}
 use Rattle.std.specs.Fmt.{signed_decimal}
 use Rattle.sw_tree.specs.Tree.{Tree, null, truth, int, text, bytes, list, map, Trees, no_trees, tree, Entries, no_entries, entry}
-use Rattle.sw_tree.specs.Image.{image}
 use Rattle.sw_tree.specs.Wires.{Texts, printed}
 use Rattle.sw_tree.specs.declared.mode.WireKind.TheVariants.{Json}
-use Rattle.sw_tree.specs.declared.mode.Place.TheVariants.{Key}
 
 -- section 7: a byte of a text, as it stands between the quotes
 unfoldable pub escape_of : ℕ → List ℕ
@@ -65,7 +63,3 @@ image_text i = text_of i []
 -- what a tree prints as: the text of its image, where it has one
 abbrev pub json_text : Tree → Option (List ℕ)
 json_text t = printed Json image_text t
-
--- what a key prints as
-abbrev pub key_text : Tree → Option (List ℕ)
-key_text t = option_map (λ i. text_of i []) (image Json Key t)

@@ -1,8 +1,8 @@
 //! What a token adds to the document.
 
 ghost use Rattle.std.specs.Prelude.{◌≡◌, None, IfOk};
-ghost use Rattle.sw_json.specs.Lexeme.{token_of, TellsEscape};
-ghost use Rattle.sw_json.specs.Building.{CanBuild, Builds};
+ghost use Rattle.sw_json.specs.Inner.Lexeme.{token_of, TellsEscape};
+ghost use Rattle.sw_json.specs.Inner.Building.{CanBuild, Builds};
 
 use crate::lexer::Lexeme;
 use crate::quoted::Quoted;

@@ -3,7 +3,7 @@
 ghost use Rattle.std.specs.Prelude.{◌≡◌};
 ghost use Rattle.sw_json.specs.Bytes as tests;
 ghost use Rattle.sw_json.specs.Bytes.{front, behind};
-ghost use Rattle.sw_json.specs.Class.{test_of};
+ghost use Rattle.sw_json.specs.Inner.Class.{test_of};
 ghost use Rattle.sw_json.specs.Grammar.{skip};
 
 /// A class of bytes that come in runs.

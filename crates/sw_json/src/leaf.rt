@@ -4,8 +4,9 @@ ghost use Rattle.std.specs.Prelude.{◌≡◌, ◌∷◌, ◌++◌, [], Some, po
 ghost use Rattle.std.specs.Char.{digit_char};
 ghost use Rattle.sw_tree.specs.Tree.{truth, int, text, bytes};
 ghost use Rattle.sw_tree.specs.Image.{numbers};
-ghost use Rattle.sw_json.specs.Text.{escape_of, escaped, more_items, json_text, key_text};
-ghost use Rattle.sw_json.specs.Pushed.{IsPushed};
+ghost use Rattle.sw_json.specs.Text.{escape_of, escaped, more_items, json_text};
+ghost use Rattle.sw_json.specs.Inner.Text.{key_text};
+ghost use Rattle.sw_json.specs.Inner.Pushed.{IsPushed};
 
 use crate::plain::{are_plain, split_plain};
 use itoa::Buffer;

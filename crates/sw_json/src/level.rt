@@ -10,7 +10,7 @@ pub struct Level {
 
 impl Level {
     ghost use Rattle.std.specs.Prelude.{◌≡◌};
-    ghost use Rattle.sw_json.specs.Turns.{first_level, height_after, after};
+    ghost use Rattle.sw_json.specs.Inner.Turns.{first_level, height_after, after};
 
     /// A list or map with nothing in it.
     #[inline]

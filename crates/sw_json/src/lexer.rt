@@ -6,7 +6,7 @@ ghost use Rattle.sw_json.specs.Bytes.{front, behind, behind_word};
 ghost use Rattle.sw_json.specs.Quoted.{quoted};
 ghost use Rattle.sw_json.specs.Lexing as lexing;
 ghost use Rattle.sw_json.specs.Lexing.{lexeme, text_token, number_token, literal_or_number};
-ghost use Rattle.sw_json.specs.Lexeme.{token_of, TellsEscape};
+ghost use Rattle.sw_json.specs.Inner.Lexeme.{token_of, TellsEscape};
 
 use crate::class::{Class, split_class};
 use crate::quoted::{Quoted, read_quoted};

@@ -2,8 +2,8 @@
 
 ghost use Rattle.std.specs.Prelude.{◌≡◌, ◌+◌, ◌≤◌, ◌<◌, [], ◌∷◌, ◌++◌, Some, drop};
 ghost use Rattle.std.specs.Fmt.{signed_decimal};
-ghost use Rattle.sw_json.specs.Pushed.{IsPushed};
-ghost use Rattle.sw_json.specs.Turns.{separator};
+ghost use Rattle.sw_json.specs.Inner.Pushed.{IsPushed};
+ghost use Rattle.sw_json.specs.Inner.Turns.{separator};
 
 use crate::leaf::append;
 use crate::turn::Turn;

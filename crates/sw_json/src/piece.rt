@@ -4,8 +4,8 @@
 ghost use Rattle.std.specs.Prelude.{◌≡◌, ◌+◌, ◌<◌, ◌≤◌, [], ◌∷◌, ◌++◌, Some, vec_len, vec_capacity};
 ghost use Rattle.std.specs.Fmt.{signed_decimal};
 ghost use Rattle.sw_tree.specs.Tree.{null, truth, int, text, bytes};
-ghost use Rattle.sw_json.specs.Pushed.{IsPushed, joined};
-ghost use Rattle.sw_json.specs.Turns.{separator, piece, opening, bracket, ending};
+ghost use Rattle.sw_json.specs.Inner.Pushed.{IsPushed, joined};
+ghost use Rattle.sw_json.specs.Inner.Turns.{separator, piece, opening, bracket, ending};
 
 use crate::leaf::{
     append, append_byte, push_bool, push_bool_key, push_bytes, push_number, push_number_key,

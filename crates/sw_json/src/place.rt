@@ -2,8 +2,8 @@
 
 ghost use Rattle.std.specs.Prelude.{◌≡◌, ◌∷◌, ℕ, List, IfOk, IfSome, Some, reverse};
 ghost use Rattle.sw_json.specs.Token.{Quote, Token};
-ghost use Rattle.sw_json.specs.Lexeme.{token_of};
-ghost use Rattle.sw_json.specs.Place.{place_step, place_value, place_end, outer, opening, closing, Leads};
+ghost use Rattle.sw_json.specs.Inner.Lexeme.{token_of};
+ghost use Rattle.sw_json.specs.Inner.Place.{place_step, place_value, place_end, outer, opening, closing, Leads};
 
 use crate::lexer::Lexeme;
 use std::alloc::AllocError;

@@ -7,7 +7,7 @@ ghost use Rattle.std.specs.Str.{IsUtf8};
 ghost use Rattle.std.specs.Simd.Lanes.{mask_l};
 ghost use Rattle.sw_json.specs.Bytes as tests;
 ghost use Rattle.sw_json.specs.Bytes.{front, behind};
-ghost use Rattle.sw_json.specs.Plain.{is_plain_ascii, ArePlain};
+ghost use Rattle.sw_json.specs.Inner.Plain.{is_plain_ascii, ArePlain};
 
 use std::simd::prelude::*;
 

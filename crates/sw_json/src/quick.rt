@@ -1,9 +1,9 @@
 //! The usual tokens, each of them read and added to the document in one step.
 
 ghost use Rattle.std.specs.Prelude.{◌≡◌, ◌<◌, ◌∷◌, ℕ, None, length, IfOk, reverse};
-ghost use Rattle.sw_json.specs.Building.{effect};
-ghost use Rattle.sw_json.specs.Place.{opening};
-ghost use Rattle.sw_json.specs.Quick.{CanTake, Takes, opening_byte, closing_byte};
+ghost use Rattle.sw_json.specs.Inner.Building.{effect};
+ghost use Rattle.sw_json.specs.Inner.Place.{opening};
+ghost use Rattle.sw_json.specs.Inner.Quick.{CanTake, Takes, opening_byte, closing_byte};
 
 use crate::place::{
     Open, Place, behind_closing, behind_colon, behind_comma, behind_number, behind_opening,

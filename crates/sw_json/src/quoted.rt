@@ -5,8 +5,8 @@ ghost use Rattle.std.specs.Char.{digit_value, encode_utf8};
 ghost use Rattle.std.specs.Str.{IsUtf8, is_utf8};
 ghost use Rattle.sw_json.specs.Quoted as grammar;
 ghost use Rattle.sw_json.specs.Quoted.{hex, hex_at, low_at, unit_at, escape_at, with_spelling, quoted, has_escape};
-ghost use Rattle.sw_json.specs.QuotedParts.{spelling_in, text_in, is_escaped, parts};
-ghost use Rattle.sw_json.specs.Unescaping.{unescaped};
+ghost use Rattle.sw_json.specs.Inner.QuotedParts.{spelling_in, text_in, is_escaped, parts};
+ghost use Rattle.sw_json.specs.Inner.Unescaping.{unescaped};
 
 use crate::plain::split_plain;
 use std::alloc::AllocError;

@@ -5,7 +5,7 @@ ghost use Rattle.std.specs.Bool.{OnTrue};
 ghost use Rattle.sw_tree.specs.Number.{value_of};
 ghost use Rattle.sw_json.specs.Bytes as tests;
 ghost use Rattle.sw_json.specs.Bytes.{front, behind, Stops};
-ghost use Rattle.sw_json.specs.Short.{IsShortInt, IsShort};
+ghost use Rattle.sw_json.specs.Inner.Short.{IsShortInt, IsShort};
 
 use crate::class::{is_digit, is_number_byte};
 use crate::lexer::is_leading;

@@ -17,7 +17,7 @@ pub enum Turn {
 
 impl Turn {
     ghost use Rattle.std.specs.Prelude.{◌≡◌};
-    ghost use Rattle.sw_json.specs.Turns.{next_turn, is_key, is_inside, first_turn};
+    ghost use Rattle.sw_json.specs.Inner.Turns.{next_turn, is_key, is_inside, first_turn};
 
     /// What comes first in a list, or in a map.
     #[inline]

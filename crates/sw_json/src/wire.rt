@@ -17,7 +17,7 @@ impl Wire for JsonWire {
     ghost use Rattle.sw_tree.specs.declared.mode.WireKind.TheVariants.{Json};
     ghost use Rattle.sw_json.specs.Spelled.{spells, spelled, HasEscaped};
     ghost use Rattle.sw_json.specs.Text.{image_text};
-    ghost use Rattle.sw_json.specs.Written.{fresh};
+    ghost use Rattle.sw_json.specs.Inner.Written.{fresh};
     ghost use Rattle.sw_json.specs.Laws.Completion.{grammar};
     ghost use Rattle.sw_json.specs.Laws.PrintedImages.{prints_images};
 

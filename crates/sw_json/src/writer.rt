@@ -3,7 +3,7 @@
 
 ghost use Rattle.std.specs.Prelude.{◌≡◌, Ok};
 ghost use Rattle.sw_tree.specs.Building.{IsBuilt};
-ghost use Rattle.sw_json.specs.Kept.{IsKept};
+ghost use Rattle.sw_json.specs.Inner.Kept.{IsKept};
 
 use crate::level::Level;
 use crate::piece::{
@@ -28,7 +28,7 @@ pub struct TextWriter {
 
 impl Model for TextWriter {
     ghost use Rattle.std.specs.Prelude.{reverse};
-    ghost use Rattle.sw_json.specs.Written.{Written, shown};
+    ghost use Rattle.sw_json.specs.Inner.Written.{Written, shown};
 
     ghost Value = { Written };
 
@@ -54,7 +54,7 @@ impl TextWriter {
     ghost use Rattle.std.specs.Prelude.{IfOk, length};
     ghost use Rattle.sw_tree.specs.Short.{IsLength};
     ghost use Rattle.sw_tree.specs.Wires.{IsPrinted};
-    ghost use Rattle.sw_json.specs.Written.{fresh, opened};
+    ghost use Rattle.sw_json.specs.Inner.Written.{fresh, opened};
 
     /// An empty text, with room for so many bytes.
     pub(crate) fn new(alloc: Global, bytes: usize) -> Result<TextWriter, AllocError>
@@ -100,7 +100,7 @@ impl TextWriter {
 }
 
 impl Builds for TextWriter {
-    ghost use Rattle.sw_json.specs.Written.{put, opened, closed};
+    ghost use Rattle.sw_json.specs.Inner.Written.{put, opened, closed};
     ghost use Rattle.sw_json.specs.Laws.Writing.{lists, maps};
 
     ghost put = { put };

@@ -2,7 +2,7 @@
 
 ghost use Rattle.std.specs.Prelude.{◌≡◌, ◌&&◌, ◌++◌, cond, is_ok, [], true};
 ghost use Rattle.sw_tree.specs.Placed.{placed, placed_notes};
-ghost use Rattle.sw_tree.specs.View.{seen, tree_of};
+ghost use Rattle.sw_tree.specs.Inner.View.{seen, tree_of};
 ghost use Rattle.sw_elem.specs.Equations.{own_spot};
 ghost use Rattle.sw_elem.specs.Answers.{IsRead, IsLogged, ReadsFreely};
 ghost use Rattle.sw_policy.specs.Options.{or_later, first_read, tried_skips};
@@ -30,7 +30,7 @@ pub(crate) enum NoOption {
 pub(crate) trait Options<T: Meant> {
     ghost use Rattle.std.specs.Prelude.{◌≡◌, Bool, true, List};
     ghost use Rattle.sw_tree.specs.Placed.{placed_notes};
-    ghost use Rattle.sw_tree.specs.View.{seen, tree_of};
+    ghost use Rattle.sw_tree.specs.Inner.View.{seen, tree_of};
     ghost use Rattle.sw_policy.specs.Options.{Reader, first_read, tried_skips};
     ghost use Rattle.sw_policy.specs.Inner.Chosen.{IsChosen, AreTried, ChoosesFreely};
 

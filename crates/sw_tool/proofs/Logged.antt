@@ -8,11 +8,13 @@ use Rattle.std.proofs.lemmas.Grind.{flat_map-append}
 use Rattle.sw_tree.specs.Laws.Each.{each_end}
 use Rattle.sw_tree.specs.Meaning.{Meaning}
 use Rattle.sw_tree.specs.Mode.{plain}
-use Rattle.sw_tree.specs.Nodes.{kinds, IsNoteIn, IsNoteIn-below}
+use Rattle.sw_tree.specs.Nodes.{kinds, IsNoteIn}
+use Rattle.sw_tree.specs.Laws.Nodes.{IsNoteIn-below}
 use Rattle.sw_tree.specs.Path.{HasPlace}
 use Rattle.sw_tree.specs.Placed.{Note}
 use Rattle.sw_tree.specs.Seen.{Seen}
-use Rattle.sw_tree.specs.Steps.{Each, bind_ok}
+use Rattle.sw_tree.specs.Steps.{Each}
+use Rattle.sw_tree.specs.Laws.Steps.{bind_ok}
 use Rattle.sw_tree.specs.Tree.{Tree, size}
 use Rattle.sw_tree.specs.declared.fail.Refusal.{Refusal}
 use Rattle.sw_tree.specs.declared.fail.WireError.{WireError}

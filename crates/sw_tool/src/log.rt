@@ -3,7 +3,7 @@
 ghost use Rattle.std.specs.Prelude.{◌≡◌, OnOk, IfOk, length, string_bytes};
 ghost use Rattle.sw_tree.specs.Path.{HasPlace};
 ghost use Rattle.sw_tree.specs.Steps.{Each};
-ghost use Rattle.sw_tree.specs.View.{seen};
+ghost use Rattle.sw_tree.specs.Inner.View.{seen};
 ghost use Rattle.sw_tool.specs.Log.{heading, IsLogText};
 ghost use Rattle.sw_tool.specs.Path.{HasNode, IsPathIn};
 ghost use Rattle.sw_tool.specs.Inner.Log.{IsTold, GainsEntry};

@@ -2,7 +2,7 @@
 
 ghost use Rattle.std.specs.Prelude.{◌≡◌, true, Ok, IfOk, is_ok, string_bytes};
 ghost use Rattle.sw_tree.specs.Path.{HasPlace};
-ghost use Rattle.sw_tree.specs.View.{seen};
+ghost use Rattle.sw_tree.specs.Inner.View.{seen};
 ghost use Rattle.sw_json.specs.Spelled.{spelled};
 ghost use Rattle.sw_tool.specs.Path.{HasNode, IsPathIn, IsPathTo};
 

@@ -8,16 +8,18 @@ use Rattle.std.specs.Str.{IsUtf8}
 use Rattle.sw_tree.proofs.GrowLemmas.{grow, more}
 use Rattle.std.specs.Prelude.{is_some}
 use Rattle.sw_tree.specs.Tree as tree
-use Rattle.sw_tree.specs.Tree.{Tree, depth, trees, trees_depth, entries, entries_depth, turns, trees_depth-push}
-use Rattle.sw_tree.specs.NumberLaws.{IsInRange}
+use Rattle.sw_tree.specs.Tree.{Tree, depth, trees, trees_depth, entries, entries_depth, turns}
+use Rattle.sw_tree.proofs.Tree.{trees_depth-push}
+use Rattle.sw_tree.specs.Number.{IsInRange}
 use Rattle.sw_tree.specs.Steps.{Each}
 use Rattle.sw_tree.specs.Proper.{IsProper, AreProper}
-use Rattle.sw_tree.specs.ProperLaws.{proper-turns}
+use Rattle.sw_tree.proofs.Proper.{proper-turns}
 use Rattle.sw_tree.specs.declared.cell.Cell.{Cell}
 use Rattle.sw_tree.specs.declared.cell.Cell.TheVariants.{Null, Bool as Truth, Natural, Negative, Wide, Text, Copied, Bytes, CopiedBytes, List as Items, Map}
 use Rattle.sw_tree.specs.declared.builder.Open.{Open}
-use Rattle.sw_tree.specs.Cells.{Store, forest, arity, below, tree_at, Formed, IsFine, IsPart, first}
-use Rattle.sw_tree.specs.Builder.{Built, added, longer, opened, closed, built_tree, finished, IsComplete, meant, Segment, Stacked, Standing, open_of, done_of, root_of, IsFirst}
+use Rattle.sw_tree.specs.Inner.Cells.{Store, forest, arity, below, tree_at, Formed, IsFine, IsPart, first}
+use Rattle.sw_tree.specs.Builder.{Built, added, longer, opened, closed, built_tree, IsComplete}
+use Rattle.sw_tree.specs.Inner.Builder.{finished, meant, Segment, Stacked, Standing, open_of, done_of, root_of, IsFirst}
 use Rattle.sw_tree.proofs.CellLemmas.{Formed-drop, forest_proper}
 
 tree_at-append : (s : Store) (c : Cell) (f g : List Tree) → arity c ≤ length f → tree_at s c (f ++ g) ≡ tree_at s c f

@@ -1,6 +1,7 @@
 -- A node by its children, and their levels.
 use Rattle.std.proofs.Common.{◌≡◌, ℕ, ℤ, zero, suc, ◌<◌, ◌≤◌, max, Bool, List, [], ◌∷◌, length, get_or, refl, ap, sym, ◌∙◌, arith, Some, None}
-use Rattle.sw_tree.specs.Tree.{Tree, null, truth, int, text, bytes, list, map, trees, entries, items, pairs, items_at, pairs_at, text_at, bytes_at, int_at, truth_at, depth, trees_depth, entries_depth, trees-items, entries-pairs}
+use Rattle.sw_tree.specs.Tree.{Tree, null, truth, int, text, bytes, list, map, trees, entries, items, pairs, items_at, pairs_at, text_at, bytes_at, int_at, truth_at, depth, trees_depth, entries_depth}
+use Rattle.sw_tree.proofs.Tree.{trees-items, entries-pairs}
 
 pub item_depth : (ts : List Tree) (k : ℕ) (d t : Tree) → k < length ts → t ≡ get_or ts k d → depth t ≤ trees_depth (trees ts)
 item_depth [] k d t h e = absurd (omega arith)

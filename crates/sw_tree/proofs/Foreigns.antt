@@ -8,8 +8,9 @@ use Rattle.sw_tree.specs.declared.mode.Kind.TheVariants as kind
 use Rattle.sw_tree.specs.declared.fail.DeError.TheVariants as fail
 use Rattle.sw_tree.specs.declared.fail.Refusal.{Refusal}
 use Rattle.sw_tree.specs.Foreign.{is_plain, Foreign, further, foreign_key, foreign, foreign_items, foreign_entries}
-use Rattle.sw_tree.specs.ForeignLaws.{plain_foreign}
-use Rattle.sw_tree.specs.ForeignSeen.{refusal_of, foreign_seen, foreign_each, foreign_each_entry}
+use Rattle.sw_tree.specs.Laws.Foreign.{plain_foreign}
+use Rattle.sw_tree.specs.ForeignSeen.{refusal_of, foreign_seen}
+use Rattle.sw_tree.specs.Inner.ForeignSeen.{foreign_each, foreign_each_entry}
 
 abbrev at : Bool → ℕ → Tree → Seen
 at c p t = record { tree = t; place = p; counts = c }

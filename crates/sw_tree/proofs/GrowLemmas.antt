@@ -10,8 +10,8 @@ use Rattle.sw_tree.specs.declared.cell.Cell.{Cell}
 use Rattle.sw_tree.specs.declared.cell.Span.{Span}
 use Rattle.sw_tree.specs.declared.cell.Cell.TheVariants.{Null, Bool, Natural, Negative, Wide, Text, Copied, Bytes, CopiedBytes, List as Items, Map}
 use Rattle.sw_tree.specs.declared.builder.Open.{Open}
-use Rattle.sw_tree.specs.Cells.{Store, forest, arity, below, tree_at, part, Formed, IsFine, IsText, IsPart}
-use Rattle.sw_tree.specs.Builder.{Segment, Stacked, open_of, done_of}
+use Rattle.sw_tree.specs.Inner.Cells.{Store, forest, arity, below, tree_at, part, Formed, IsFine, IsText, IsPart}
+use Rattle.sw_tree.specs.Inner.Builder.{Segment, Stacked, open_of, done_of}
 use Rattle.sw_tree.proofs.CellLemmas.{Formed-drop}
 
 -- with more beside the input

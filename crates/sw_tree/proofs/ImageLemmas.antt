@@ -6,7 +6,8 @@ use Rattle.sw_tree.specs.Imaged.{MeansImage, IsImaged}
 use Rattle.sw_tree.specs.declared.fail.PrintError.{PrintError}
 use Rattle.sw_tree.specs.declared.fail.PrintError.TheVariants as print
 use Rattle.sw_tree.specs.Tree.{Tree, Trees, Entries, null, truth, int, text, bytes, list, map, no_trees, tree, no_entries, entry, trees, entries, depth, trees_depth, entries_depth, items_at, pairs_at, bytes_at}
-use Rattle.sw_tree.specs.Seen.{Seen, trees_of, pairs_of}
+use Rattle.sw_tree.specs.Seen.{Seen}
+use Rattle.sw_tree.specs.Inner.Seen.{trees_of, pairs_of}
 use Rattle.sw_tree.specs.Image.{numbers, key_image, value_image, trees_image, entries_image, next_tree, next_entry}
 
 -- what is no list, no map and no byte string is its own image

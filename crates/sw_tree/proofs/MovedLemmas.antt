@@ -12,8 +12,9 @@ use Rattle.sw_tree.specs.Steps.{Each}
 use Rattle.sw_tree.specs.Tree as tree
 use Rattle.sw_tree.specs.Tree.{Tree, depth}
 use Rattle.sw_tree.specs.Proper.{IsProper}
-use Rattle.sw_tree.specs.Cells.{Store, Formed, IsFine, IsPart, IsText, part, forest, arity, below, tree_at}
-use Rattle.sw_tree.specs.Moved.{joined, widened, reach_from, nothing, all_settled, reach_of, moved_span, moved, cut}
+use Rattle.sw_tree.specs.Inner.Cells.{Store, Formed, IsFine, IsPart, IsText, part, forest, arity, below, tree_at}
+use Rattle.sw_tree.specs.Inner.Moved.{joined, widened, reach_from, nothing, all_settled, reach_of, moved_span, moved}
+use Rattle.sw_tree.proofs.Cutting.{cut}
 use Rattle.sw_tree.proofs.CellLemmas.{Formed-drop}
 
 pub record Lies (r : Stretch) (start end : ℕ) : Type 0 where

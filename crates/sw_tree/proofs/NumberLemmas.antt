@@ -3,7 +3,8 @@ use Rattle.std.proofs.Common.{◌≡◌, ◌≤◌, ◌<◌, ℕ, suc, ◌+◌, 
 use Rattle.std.specs.Prelude.{SomeIff, ◌&&◌}
 use Rattle.std.specs.List.{list_all}
 use Rattle.std.proofs.lemmas.Bool.Decides.{nat_tests}
-use Rattle.sw_tree.specs.Number.{is_digit, is_leading, is_int, value_from, value_of, AreWide, IsWideInt}
+use Rattle.sw_tree.specs.Number.{is_digit, is_leading, is_int, value_from, value_of}
+use Rattle.sw_tree.specs.Inner.Number.{AreWide, IsWideInt}
 
 pub value_grows : (ds : List ℕ) (n : ℕ) → n ≤ value_from n ds
 value_grows [] n = omega arith

@@ -4,8 +4,8 @@ use Rattle.std.proofs.lemmas.List.{length-take-le}
 use Rattle.std.specs.Prelude.{slice_range}
 use Rattle.sw_tree.specs.declared.cell.Cell.{Cell}
 use Rattle.sw_tree.specs.Tree.{Tree}
-use Rattle.sw_tree.specs.Cells.{Store, Formed, forest, first, below, tree_at}
-use Rattle.sw_tree.specs.Moved.{reach_of}
+use Rattle.sw_tree.specs.Inner.Cells.{Store, Formed, forest, first, below, tree_at}
+use Rattle.sw_tree.specs.Inner.Moved.{reach_of}
 use Rattle.sw_tree.specs.declared.part.Reach.{Reach}
 use Rattle.sw_tree.proofs.CellLemmas.{is_at}
 use Rattle.sw_tree.proofs.Runs.{run_of}

@@ -4,7 +4,8 @@ use Rattle.std.specs.Prelude.{slice_get}
 use Rattle.std.specs.Option.{option_and_then}
 use Rattle.sw_tree.specs.Tree.{Tree, Trees, Entries, null, truth, int, text, bytes, list, map, no_trees, tree, no_entries, entry, items, pairs, size, trees_size, entries_size, len_of}
 use Rattle.sw_tree.specs.Seen.{Seen, row, entry_row, behind, place_at, items_seen, entries_seen}
-use Rattle.sw_tree.specs.Path.{child, node_seen, HasPlace, Holds, HoldsPair}
+use Rattle.sw_tree.specs.Path.{child, node_seen, HasPlace}
+use Rattle.sw_tree.specs.Inner.Path.{Holds, HoldsPair}
 use Rattle.sw_tree.specs.declared.path.Step.{Step}
 
 -- the items of a tree, from that place on

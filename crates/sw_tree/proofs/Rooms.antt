@@ -4,8 +4,8 @@ use Rattle.std.specs.Prelude.{nat_le}
 use Rattle.sw_tree.specs.declared.builder.Open.{Open}
 use Rattle.sw_tree.specs.declared.cell.Cell.{Cell}
 use Rattle.sw_tree.specs.Tree.{Tree}
-use Rattle.sw_tree.specs.Cells.{Store, forest}
-use Rattle.sw_tree.specs.Builder.{Stacked, meant, takes, root_of}
+use Rattle.sw_tree.specs.Inner.Cells.{Store, forest}
+use Rattle.sw_tree.specs.Inner.Builder.{Stacked, meant, takes, root_of}
 use Rattle.sw_tree.proofs.BuilderLemmas.{rootless, frames_len}
 
 none_root : (ts : List Tree) → length ts ≡ 0 → root_of ts ≡ None

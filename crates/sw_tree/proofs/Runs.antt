@@ -7,7 +7,7 @@ use Rattle.sw_tree.specs.declared.cell.Cell.TheVariants.{Null, Bool, Natural, Ne
 use Rattle.sw_tree.specs.Tree as tree
 use Rattle.sw_tree.specs.Tree.{Tree, depth, trees, entries, turns, size, trees_size}
 use Rattle.sw_tree.specs.Proper.{IsProper}
-use Rattle.sw_tree.specs.Cells.{Store, Formed, Fits, forest, arity, below, tree_at}
+use Rattle.sw_tree.specs.Inner.Cells.{Store, Formed, Fits, forest, arity, below, tree_at}
 use Rattle.sw_tree.proofs.CellLemmas.{Formed-drop}
 use Rattle.sw_tree.proofs.BuilderLemmas.{forest-append, Formed-append}
 use Rattle.sw_tree.proofs.Sizes.{below_size, size_at}

@@ -4,9 +4,10 @@ use Rattle.sw_tree.proofs.BuilderLemmas.{forest_le}
 use Rattle.sw_tree.specs.declared.cell.Cell.{Cell}
 use Rattle.sw_tree.specs.declared.cell.Span.{Span}
 use Rattle.sw_tree.specs.declared.cell.Cell.TheVariants.{Null, Bool, Natural, Negative, Wide, Text, Copied, Bytes, CopiedBytes, List as Items, Map}
-use Rattle.sw_tree.specs.Tree.{Tree, trees, entries, turns, items-trees, pairs-entries}
+use Rattle.sw_tree.specs.Tree.{Tree, trees, entries, turns}
+use Rattle.sw_tree.specs.Laws.Tree.{items-trees, pairs-entries}
 use Rattle.sw_tree.specs.Short.{IsLength, IsShort, AreShort, AreShortEntries}
-use Rattle.sw_tree.specs.Cells.{Store, part, arity, tree_at, forest, first}
+use Rattle.sw_tree.specs.Inner.Cells.{Store, part, arity, tree_at, forest, first}
 
 pub short-push : (ts : List Tree) (t : Tree) → AreShort (trees ts) → IsShort t → AreShort (trees (ts ++ t ∷ []))
 short-push [] t h p = (p, tt)

@@ -1,11 +1,13 @@
 -- What the items and entries of a view show.
 use Rattle.std.proofs.Common.{◌≡◌, ℕ, ◌≤◌, Bool, List, [], ◌∷◌, Some, refl, ap, sym, ◌∙◌}
-use Rattle.sw_tree.specs.Tree.{Tree, null, truth, int, text, bytes, list, map, trees, items, entries, pairs, depth, trees-items, entries-pairs}
-use Rattle.sw_tree.specs.Seen.{Seen, row, entry_row, behind, place_at, items_seen, entries_seen, trees_of, pairs_of}
+use Rattle.sw_tree.specs.Tree.{Tree, null, truth, int, text, bytes, list, map, trees, items, entries, pairs, depth}
+use Rattle.sw_tree.proofs.Tree.{trees-items, entries-pairs}
+use Rattle.sw_tree.specs.Seen.{Seen, row, entry_row, behind, place_at, items_seen, entries_seen}
+use Rattle.sw_tree.specs.Inner.Seen.{trees_of, pairs_of}
 use Rattle.sw_tree.specs.declared.view.View.{View}
 use Rattle.sw_tree.specs.declared.cell.Cell.TheVariants.{Null}
-use Rattle.sw_tree.specs.Cells.{forest, first}
-use Rattle.sw_tree.specs.View.{seen, tree_of, store_of}
+use Rattle.sw_tree.specs.Inner.Cells.{forest, first}
+use Rattle.sw_tree.specs.Inner.View.{seen, tree_of, store_of}
 use Rattle.sw_tree.proofs.CellLemmas.{is_at}
 
 trees_of-row : (c : Bool) (p : ℕ) (ts : List Tree) → trees_of (row c p ts) ≡ ts

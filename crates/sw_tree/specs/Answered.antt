@@ -1,5 +1,5 @@
 -- What a call answers that may want memory, by the cause that its error tells.
-use Rattle.std.specs.Prelude.{◌≡◌, Option, Some, None, MatchOption, IfSome, Result, Ok, Err}
+use Rattle.std.specs.Prelude.{◌≡◌, Option, IfSome, Result, Ok, Err, Some, None, MatchOption}
 use Rattle.sw_tree.specs.declared.fail.DeFail.{DeFail}
 use Rattle.sw_tree.specs.declared.fail.DeFail.TheVariants as de
 use Rattle.sw_tree.specs.declared.fail.PrintError.{PrintError}
@@ -27,7 +27,6 @@ AnsweredFreely cause (Ok x) = Unit {0}
 AnsweredFreely cause (Err e) = MatchOption (cause e) ⊥ (λ c. Unit {0})
 
 -- ---- the cause that each error tells
-
 abbrev pub write_cause : SerFail → Option SerError
 write_cause (ser.Unwritable e) = Some e
 write_cause ser.Memory = None

@@ -1,7 +1,7 @@
 -- What is built node by node, and what the calls that build answer.
-use Rattle.std.specs.Prelude.{◌≡◌, List, [], ◌∷◌, cond, nat_le, Bool, true, false, Result, Ok, Err}
+use Rattle.std.specs.Prelude.{cond, nat_le, Result, Ok, Err, ◌≡◌, Bool, true, false, List, [], ◌∷◌}
 use Rattle.sw_tree.specs.Answered.{Answered, write_cause}
-use Rattle.sw_tree.specs.Tree.{Tree, list, map, trees, entries, by_turns, depth}
+use Rattle.sw_tree.specs.Tree.{Tree, depth, list, trees, map, entries, by_turns}
 use Rattle.sw_tree.specs.Steps.{bind}
 use Rattle.sw_tree.specs.declared.fail.SerError.{SerError}
 use Rattle.sw_tree.specs.declared.fail.SerFail.{SerFail}

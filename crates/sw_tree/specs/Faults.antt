@@ -1,5 +1,5 @@
 -- The faults of a raw tree, in order of place, and the tree that a raw tree without faults is.
-use Rattle.std.specs.Prelude.{ℕ, pos, suc, ℤ, List, [], ◌∷◌, nat_lt, if◌then◌else◌, Option, Some, None, Result, Ok, Err}
+use Rattle.std.specs.Prelude.{ℕ, ℤ, List, ◌∷◌, Option, Some, None, nat_lt, if◌then◌else◌, suc, [], pos, Result, Ok, Err}
 use Rattle.sw_tree.specs.Tree.{Tree, Trees, Entries}
 use Rattle.sw_tree.specs.Tree as tree
 use Rattle.sw_tree.specs.Raw.{Raw, RawItems, no_items, item, RawEntries, no_entries, entry}

@@ -1,7 +1,7 @@
 -- Trees whose keys are all texts and that have no byte string, and what other trees have.
-use Rattle.std.specs.Prelude.{ℕ, ◌+◌, Bool, true, false, ◌&&◌, Option, Some, None, option_map}
+use Rattle.std.specs.Prelude.{Bool, true, false, ◌&&◌, ℕ, ◌+◌, Option, option_map, Some, None}
 use Rattle.std.specs.Option.{option_or}
-use Rattle.sw_tree.specs.Tree.{Tree, null, truth, int, text, bytes, list, map, Trees, no_trees, tree, Entries, no_entries, entry, size, kind_of}
+use Rattle.sw_tree.specs.Tree.{Tree, text, null, truth, int, bytes, list, map, Trees, no_trees, tree, Entries, no_entries, entry, kind_of, size}
 use Rattle.sw_tree.specs.declared.mode.Kind.{Kind}
 use Rattle.sw_tree.specs.declared.mode.Kind.TheVariants as kind
 

@@ -2,13 +2,13 @@
 --
 -- On the compact wire that is the tree. On JSON a byte string in value place becomes the list of its numbers. A key that is
 -- a text stays, one that is a number or a truth value becomes its text, and one of another kind has no image, nor has the map.
-use Rattle.std.specs.Prelude.{ℕ, pos, List, [], ◌∷◌, Bool, true, false, Option, Some, None, option_map, codes}
+use Rattle.std.specs.Prelude.{ℕ, List, Bool, true, false, codes, pos, [], ◌∷◌, Option, Some, None, option_map}
 use Rattle.std.specs.Fmt.{signed_decimal}
 use Rattle.sw_tree.specs.declared.mode.WireKind.{WireKind}
 use Rattle.sw_tree.specs.declared.mode.WireKind.TheVariants.{Json, Compact}
 use Rattle.sw_tree.specs.declared.mode.Place.{Place}
 use Rattle.sw_tree.specs.declared.mode.Place.TheVariants.{Value, Key}
-use Rattle.sw_tree.specs.Tree.{Tree, null, truth, int, text, bytes, list, map, Trees, no_trees, tree, Entries, no_entries, entry}
+use Rattle.sw_tree.specs.Tree.{int, Trees, no_trees, tree, Tree, truth, text, Entries, entry, null, bytes, list, map, no_entries}
 
 abbrev pub bool_text : Bool → List ℕ
 bool_text true = codes "true"

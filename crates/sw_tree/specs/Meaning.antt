@@ -1,6 +1,5 @@
 -- What a value means, as plain data: nothing, a truth value, a whole number, a text, a tree, a list of meanings, or a numbered case with a meaning.
-use Rattle.std.specs.Prelude.{◌≡◌, ℕ, ℤ, List, [], ◌∷◌, Bool}
-use Rattle.std.proofs.Common.{refl, ap}
+use Rattle.std.specs.Prelude.{ℕ, ℤ, List, Bool, [], ◌∷◌}
 use Rattle.sw_tree.specs.Tree.{Tree}
 
 mutual
@@ -24,11 +23,3 @@ meanings (v ∷ vs) = meaning v (meanings vs)
 abbrev pub parts : Meanings → List Meaning
 parts no_meanings = []
 parts (meaning v vs) = v ∷ parts vs
-
-pub parts-meanings : (vs : List Meaning) → parts (meanings vs) ≡ vs
-parts-meanings [] = refl
-parts-meanings (v ∷ vs) = ap (λ r. v ∷ r) (parts-meanings vs)
-
-pub meanings-parts : (vs : Meanings) → meanings (parts vs) ≡ vs
-meanings-parts no_meanings = refl
-meanings-parts (meaning v vs) = ap (λ r. meaning v r) (meanings-parts vs)

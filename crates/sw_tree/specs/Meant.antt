@@ -1,21 +1,16 @@
 -- The meanings of std's values.
-use Rattle.std.specs.Prelude.{◌≡◌, ℕ, zero, suc, ◌<◌, pos, true, List, [], ◌∷◌, map, length, Option, Some, None, Result, Ok, Err, String, string_bytes, FitsSigned}
-use Rattle.std.proofs.Common.{ap, ◌∙◌}
+use Rattle.std.specs.Prelude.{ℕ, pos, ◌<◌, FitsSigned, String, string_bytes, ◌≡◌, true, Option, Some, None, zero, suc, List, map, length, [], ◌∷◌, Result, Ok, Err}
 use Rattle.std.specs.Int.{Width}
-use Rattle.std.specs.Char.{IsScalar, encode_utf8}
+use Rattle.std.specs.Char.{encode_utf8, IsScalar}
 use Rattle.std.specs.Str.{is_utf8}
-use Rattle.std.specs.Coded.{Coded-set, coded_bool}
 use Rattle.std.specs.declared.alloc.Global.{Global}
 use Rattle.std.specs.declared.ops.Bound.{Bound}
 use Rattle.std.specs.declared.ops.Bound.TheVariants.{Included, Excluded, Unbounded}
-use Rattle.std.proofs.Math.Logic.{∥∥₁_elim}
-use Rattle.std.proofs.lemmas.Str.{is_utf8-from_IsUtf8}
-use Rattle.sw_tree.specs.Meaning.{Meaning, Meanings, nothing, truth, number, text, list, case, no_meanings, meaning, meanings, parts, parts-meanings}
+use Rattle.sw_tree.specs.Meaning.{Meaning, nothing, truth, number, text, case, list, meanings, parts, no_meanings, meaning, Meanings}
 use Rattle.sw_tree.specs.Steps.{Each}
-use Rattle.sw_tree.specs.NumberLaws.{IsInRange}
+use Rattle.sw_tree.specs.Number.{IsInRange}
 
 -- ---- (), truth values and numbers
-
 abbrev pub IsNothing : Meaning → Type 0
 IsNothing nothing = Unit {0}
 IsNothing _ = ⊥
@@ -43,16 +38,12 @@ IsWholeNumber (number z) = IsInRange z
 IsWholeNumber _ = ⊥
 
 -- ---- texts
-
 abbrev pub text_meaning : String Global → Meaning
 text_meaning s = text (string_bytes s)
 
 abbrev pub IsText : Meaning → Type 0
 IsText (text s) = is_utf8 s ≡ true
 IsText _ = ⊥
-
-pub text_meaning-is : (s : String Global) → IsText (text_meaning s)
-text_meaning-is s = ∥∥₁_elim s.ok (Coded-set coded_bool _ _) (is_utf8-from_IsUtf8 (string_bytes s))
 
 -- a character means its text
 abbrev pub char_meaning : ℕ → Meaning
@@ -64,7 +55,6 @@ IsCharText (text s) = (c : ℕ) × IsScalar c × (s ≡ encode_utf8 c)
 IsCharText _ = ⊥
 
 -- ---- options
-
 abbrev pub option_meaning : {T : Type 0} → (T → Meaning) → Option T → Meaning
 option_meaning f None = case 0 nothing
 option_meaning f (Some x) = case 1 (f x)
@@ -75,7 +65,6 @@ IsOptionOf P (case (suc zero) v) = P v
 IsOptionOf P _ = ⊥
 
 -- ---- lists, arrays and pairs
-
 abbrev pub list_meaning : {T : Type 0} → (T → Meaning) → List T → Meaning
 list_meaning f xs = list (meanings (map f xs))
 
@@ -83,20 +72,10 @@ abbrev pub IsListOf : (Meaning → Type 0) → Meaning → Type 0
 IsListOf P (list vs) = Each P (parts vs)
 IsListOf P _ = ⊥
 
-pub list_meaning-is : {T : Type 0} (f : T → Meaning) (P : Meaning → Type 0) (xs : List T) → Each P (map f xs) → IsListOf P (list_meaning f xs)
-list_meaning-is f P xs h = rw (parts-meanings (map f xs)) h
-
 -- a list of so many
 abbrev pub IsArrayOf : (Meaning → Type 0) → ℕ → Meaning → Type 0
 IsArrayOf P n (list vs) = Each P (parts vs) × (length (parts vs) ≡ n)
 IsArrayOf P n _ = ⊥
-
-same_length : {T : Type 0} (f : T → Meaning) (xs : List T) → length (parts (meanings (map f xs))) ≡ length xs
-same_length f [] = ap length (parts-meanings [])
-same_length f (x ∷ xs) = ap suc (same_length f xs)
-
-pub array_meaning-is : {T : Type 0} (f : T → Meaning) (P : Meaning → Type 0) (n : ℕ) (xs : List T) → Each P (map f xs) → length xs ≡ n → IsArrayOf P n (list_meaning f xs)
-array_meaning-is f P n xs h e = (list_meaning-is f P xs h, same_length f xs ∙ e)
 
 abbrev pub pair : Meaning → Meaning → Meaning
 pair a b = list (meaning a (meaning b no_meanings))
@@ -109,7 +88,6 @@ IsPairOf P Q (list (meaning a (meaning b no_meanings))) = P a × Q b
 IsPairOf P Q _ = ⊥
 
 -- ---- rows: so many meanings, each of its own kind
-
 abbrev pub row : List Meaning → Meaning
 row vs = list (meanings vs)
 
@@ -123,7 +101,6 @@ IsRowOf Ps (list vs) = AreOf Ps vs
 IsRowOf Ps _ = ⊥
 
 -- ---- results and the ends of ranges
-
 abbrev pub result_meaning : {T E : Type 0} → (T → Meaning) → (E → Meaning) → Result T E → Meaning
 result_meaning f g (Ok x) = case 0 (f x)
 result_meaning f g (Err e) = case 1 (g e)

@@ -1,8 +1,7 @@
 -- The kinds of a tree's nodes by number: from 0 in preorder, a key before its value.
-use Rattle.std.specs.Prelude.{◌≡◌, ◌<◌, ℕ, suc, List, [], ◌∷◌, ◌++◌, length, false, Some, slice_get}
-use Rattle.std.proofs.Common.{refl, ap, arith, length-append}
+use Rattle.std.specs.Prelude.{List, [], ◌∷◌, ◌++◌, ◌≡◌, ℕ, Some, slice_get, ◌<◌, length, false}
 use Rattle.sw_tree.specs.Placed.{Note}
-use Rattle.sw_tree.specs.Tree.{Tree, Trees, Entries, null, truth, int, text, bytes, list, map, no_trees, tree, no_entries, entry, size, trees_size, entries_size}
+use Rattle.sw_tree.specs.Tree.{Tree, Trees, Entries, null, truth, int, text, bytes, list, map, no_trees, tree, no_entries, entry}
 use Rattle.sw_tree.specs.declared.mode.Kind.{Kind}
 use Rattle.sw_tree.specs.declared.mode.Kind.TheVariants as kind
 use Rattle.sw_tree.specs.declared.fail.DeError.TheVariants as fail
@@ -33,26 +32,3 @@ HasKind ks n k = slice_get ks n ≡ Some k
 pub record IsNoteIn (ks : List Kind) (n : Note) : Type 0 where
   pub below : n.number < length ks
   pub kind : n.inside ≡ false → (k : Kind) → n.error ≡ fail.InvalidType k → HasKind ks n.number k
-
--- there are as many as the tree has nodes
-mutual
-  pub kinds-size : (t : Tree) → length (kinds t) ≡ size t
-  kinds-size null = refl
-  kinds-size (truth b) = refl
-  kinds-size (int n) = refl
-  kinds-size (text s) = refl
-  kinds-size (bytes s) = refl
-  kinds-size (list ts) = ap suc (trees_kinds-size ts)
-  kinds-size (map es) = ap suc (entries_kinds-size es)
-
-  pub trees_kinds-size : (ts : Trees) → length (trees_kinds ts) ≡ trees_size ts
-  trees_kinds-size no_trees = refl
-  trees_kinds-size (tree t ts) = omega (arith, length-append (kinds t) (trees_kinds ts), kinds-size t, trees_kinds-size ts)
-
-  pub entries_kinds-size : (es : Entries) → length (entries_kinds es) ≡ entries_size es
-  entries_kinds-size no_entries = refl
-  entries_kinds-size (entry k v es) =
-      omega (arith, length-append (kinds k) (kinds v ++ entries_kinds es), length-append (kinds v) (entries_kinds es), kinds-size k, kinds-size v, entries_kinds-size es)
-
-pub IsNoteIn-below : (t : Tree) (n : Note) → IsNoteIn (kinds t) n → n.number < size t
-IsNoteIn-below t n h = omega (arith, h.below, kinds-size t)

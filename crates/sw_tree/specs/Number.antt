@@ -1,5 +1,5 @@
 -- The whole number that a text spells (RFC 8259, section 6).
-use Rattle.std.specs.Prelude.{◌≡◌, ℕ, ◌<◌, ◌≤◌, ◌+◌, ◌-◌, ◌*◌, ◌^◌, ℤ, pos, neg_ℤ, List, [], ◌∷◌, length, Bool, true, false, ◌&&◌, ◌==◌, nat_lt, nat_le, if◌then◌else◌, Option, Some, None}
+use Rattle.std.specs.Prelude.{ℕ, Bool, ◌&&◌, nat_le, List, [], ◌∷◌, true, false, ◌==◌, if◌then◌else◌, ◌+◌, ◌-◌, ◌*◌, ℤ, pos, neg_ℤ, ◌^◌, nat_lt, Option, Some, None, ◌≡◌, ◌<◌, ◌≤◌, length, negsuc}
 use Rattle.std.specs.List.{list_all}
 
 -- DIGIT
@@ -56,12 +56,7 @@ pub record AreFew (ds : List ℕ) : Type 0 where
   pub few : length ds ≤ 19
   pub digits : list_all is_digit ds ≡ true
 
--- digits alone, of a value below 2^128
-pub record AreWide (ds : List ℕ) : Type 0 where
-  pub digits : list_all is_digit ds ≡ true
-  pub small : value_of ds < 2 ^ 128
-
--- an int, of a value below 2^128
-pub record IsWideInt (ds : List ℕ) : Type 0 where
-  pub int : is_int ds ≡ true
-  pub small : value_of ds < 2 ^ 128
+-- from -2^127 to 2^128 - 1
+abbrev pub IsInRange : ℤ → Type 0
+IsInRange (pos n) = n < 2 ^ 128
+IsInRange (negsuc n) = n < 2 ^ 127

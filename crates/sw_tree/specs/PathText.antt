@@ -1,5 +1,5 @@
 -- The text of a path.
-use Rattle.std.specs.Prelude.{ℕ, List, [], ◌∷◌, ◌++◌, codes, decimal}
+use Rattle.std.specs.Prelude.{ℕ, List, ◌++◌, codes, decimal, [], ◌∷◌}
 use Rattle.sw_tree.specs.declared.path.Step.{Step}
 use Rattle.sw_tree.specs.declared.path.Step.TheVariants.{Item, Key, Value}
 

@@ -1,5 +1,5 @@
 -- A refusal of a part, with the place of its node.
-use Rattle.std.specs.Prelude.{ℕ, ◌+◌, List, map as list_map, Bool, Result, Ok, Err}
+use Rattle.std.specs.Prelude.{ℕ, Result, Ok, Err, Bool, List, map as list_map, ◌+◌}
 use Rattle.sw_tree.specs.Tree.{Tree}
 use Rattle.sw_tree.specs.Seen.{Seen, place_at}
 use Rattle.sw_tree.specs.Steps.{bind}

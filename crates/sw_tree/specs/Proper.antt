@@ -1,9 +1,9 @@
 -- Which trees a node can be.
 use Rattle.std.specs.Prelude.{◌<◌, ◌≤◌}
 use Rattle.std.specs.Str.{IsUtf8}
-use Rattle.sw_tree.specs.NumberLaws.{IsInRange}
 use Rattle.sw_tree.specs.Steps.{Each}
 use Rattle.sw_tree.specs.Tree.{Tree, null, truth, int, text, bytes, list, map, Trees, no_trees, tree, Entries, no_entries, entry, depth}
+use Rattle.sw_tree.specs.Number.{IsInRange}
 
 -- Numbers are within range, texts are UTF-8, the bytes of byte strings are below 256, and so it is in lists and maps.
 abbrev mutual

@@ -30,7 +30,6 @@ abbrev pub IsMapOf : (Meaning → Type 0) → Order → (Meaning → Type 0) →
 IsMapOf P R Q = IsSetOf (IsPairOf P Q) (by_first R)
 
 -- ---- what is put into an ascending list
-
 -- where `join` gives what stands for one of the list and a new one that compares equal to it
 module _ {A : Type 0} (R : A → A → Ordering) (join : A → A → A) where
   -- v at its place
@@ -58,7 +57,6 @@ abbrev pub value_replaced : Join
 value_replaced e v = pair (first e) (second v)
 
 -- ---- hashed entries and keys in order
-
 module _ {K X : Type 0} (cmp : K → K → Ordering) where
   -- the entries es inserted in turn into others that are in order
   abbrev pub sort_onto : List (K × X) → List (K × X) → List (K × X)

@@ -1,6 +1,5 @@
 -- What a node means.
-use Rattle.std.specs.Prelude.{ℕ, suc, max, ℤ, List, [], ◌∷◌, Bool, Option, Some, None, length, ◌≡◌, ◌++◌, ◌+◌}
-use Rattle.std.proofs.Common.{refl, ap, arith}
+use Rattle.std.specs.Prelude.{ℕ, ℤ, List, Bool, [], ◌∷◌, suc, max, Option, Some, None, length, ◌+◌}
 use Rattle.sw_tree.specs.declared.mode.Kind.{Kind}
 use Rattle.sw_tree.specs.declared.mode.Kind.TheVariants as kind
 
@@ -91,30 +90,6 @@ len_of (list ts) = length (items ts)
 len_of (map es) = length (pairs es)
 len_of (bytes s) = length s
 len_of _ = 0
-
-pub items-trees : (ts : List Tree) → items (trees ts) ≡ ts
-items-trees [] = refl
-items-trees (t ∷ ts) = ap (λ r. t ∷ r) (items-trees ts)
-
-pub trees-items : (ts : Trees) → trees (items ts) ≡ ts
-trees-items no_trees = refl
-trees-items (tree t ts) = ap (λ r. tree t r) (trees-items ts)
-
-pub pairs-entries : (es : List (Tree × Tree)) → pairs (entries es) ≡ es
-pairs-entries [] = refl
-pairs-entries (e ∷ es) = ap (λ r. e ∷ r) (pairs-entries es)
-
-pub entries-pairs : (es : Entries) → entries (pairs es) ≡ es
-entries-pairs no_entries = refl
-entries-pairs (entry k v es) = ap (λ r. entry k v r) (entries-pairs es)
-
-pub trees_depth-push : (ts : List Tree) (t : Tree) → trees_depth (trees (ts ++ t ∷ [])) ≡ max (trees_depth (trees ts)) (depth t)
-trees_depth-push [] t = omega arith
-trees_depth-push (s ∷ ts) t = omega (arith, trees_depth-push ts t)
-
-pub entries_depth-push : (es : List (Tree × Tree)) (e : Tree × Tree) → entries_depth (entries (es ++ e ∷ [])) ≡ max (max (entries_depth (entries es)) (depth e.0)) (depth e.1)
-entries_depth-push [] e = omega arith
-entries_depth-push (d ∷ es) e = omega (arith, entries_depth-push es e)
 
 -- how many nodes a tree has
 abbrev mutual

@@ -1,13 +1,13 @@
 -- What the calls of a wire answer, and its laws.
-use Rattle.std.specs.Prelude.{◌≡◌, ◌⊎◌, ℕ, List, [], Option, Some, option_map, IfSome, Result, Ok, Err, Vec}
+use Rattle.std.specs.Prelude.{ℕ, List, Result, Option, option_map, ◌≡◌, [], Some, IfSome, Vec, ◌⊎◌, Err, Ok}
 use Rattle.std.specs.declared.alloc.Global.{Global}
-use Rattle.sw_tree.specs.Answered.{Answered, AnsweredOption, wire_cause, print_cause}
+use Rattle.sw_tree.specs.Answered.{wire_cause, Answered, AnsweredOption, print_cause}
 use Rattle.sw_tree.specs.Tree.{Tree}
 use Rattle.sw_tree.specs.Image.{image}
 use Rattle.sw_tree.specs.Proper.{IsNodeTree}
 use Rattle.sw_tree.specs.Short.{IsShort}
 use Rattle.sw_tree.specs.Raw.{Raw}
-use Rattle.sw_tree.specs.Faults.{faults, first, whole, judged}
+use Rattle.sw_tree.specs.Faults.{faults, whole, first, judged}
 use Rattle.sw_tree.specs.declared.mode.WireKind.{WireKind}
 use Rattle.sw_tree.specs.declared.mode.Place.TheVariants.{Value}
 use Rattle.sw_tree.specs.Doc.{Document}

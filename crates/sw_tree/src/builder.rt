@@ -2,7 +2,8 @@ ghost use Rattle.std.specs.Prelude.{◌≡◌, ◌<◌, ◌≤◌, ◌+◌, [], 
 ghost use Rattle.std.specs.Str.{IsUtf8};
 ghost use Rattle.sw_tree.specs.Steps.{Each};
 ghost use Rattle.sw_tree.specs.Tree as tree;
-ghost use Rattle.sw_tree.specs.Builder.{added, longer, opened, closed, finished, CanClose, takes, can_close};
+ghost use Rattle.sw_tree.specs.Builder.{added, longer, opened, closed, CanClose};
+ghost use Rattle.sw_tree.specs.Inner.Builder.{finished, takes, can_close};
 
 use crate::cell::{Cell, Extent, Span};
 use crate::doc::Doc;
@@ -37,7 +38,8 @@ pub struct DocBuilder<'de> {
 
 impl<'de> Model for DocBuilder<'de> {
     ghost use Rattle.std.specs.Prelude.{reverse};
-    ghost use Rattle.sw_tree.specs.Builder.{Built, coded_built, meant, Standing};
+    ghost use Rattle.sw_tree.specs.Builder.{Built};
+    ghost use Rattle.sw_tree.specs.Inner.Builder.{coded_built, meant, Standing};
 
     ghost Value = { Built };
 
@@ -50,9 +52,9 @@ impl<'de> Model for DocBuilder<'de> {
 
 impl<'de> DocBuilder<'de> {
     ghost use Rattle.std.specs.Prelude.{slice_range};
-    ghost use Rattle.sw_tree.specs.Cells.{Store, IsFine, arity, below, tree_at};
+    ghost use Rattle.sw_tree.specs.Inner.Cells.{Store, IsFine, arity, below, tree_at};
     ghost use Rattle.sw_tree.specs.Tree.{depth};
-    ghost use Rattle.sw_tree.specs.NumberLaws.{IsInRange};
+    ghost use Rattle.sw_tree.specs.Number.{IsInRange};
     ghost use Rattle.sw_tree.specs.Proper.{IsProper};
 
     /// Nothing open and no root, over that input. It takes no memory.

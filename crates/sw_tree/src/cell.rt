@@ -21,7 +21,7 @@ pub struct Halves {
 
 impl Halves {
     ghost use Rattle.std.specs.Prelude.{◌≡◌};
-    ghost use Rattle.sw_tree.specs.Cells.{halves_number};
+    ghost use Rattle.sw_tree.specs.Inner.Cells.{halves_number};
 
     /// The halves of that number.
     #[inline]
@@ -69,7 +69,7 @@ impl Cell {
     ghost use Rattle.std.specs.Prelude.{◌≡◌, List};
     ghost use Rattle.sw_tree.specs.Tree as tree;
     ghost use Rattle.sw_tree.specs.Tree.{Tree};
-    ghost use Rattle.sw_tree.specs.Cells.{Store, IsFine, arity, below, tree_at};
+    ghost use Rattle.sw_tree.specs.Inner.Cells.{Store, IsFine, arity, below, tree_at};
 
     /// The cell of that number.
     #[inline]

@@ -53,7 +53,8 @@ impl<T: Meant> Meant for Option<T> {
 }
 
 impl<T: Ranked> Ranked for Option<T> {
-    ghost use Rattle.sw_tree.specs.OptionRanks.{option_order, option_order-is, option_ranks};
+    ghost use Rattle.sw_tree.specs.OptionRanks.{option_order};
+    ghost use Rattle.sw_tree.specs.Laws.OptionRanks.{option_order-is, option_ranks};
 
     ghost order = { option_order T.order };
 
@@ -63,8 +64,8 @@ impl<T: Ranked> Ranked for Option<T> {
 }
 
 impl<T: Keyed> Keyed for Option<T> {
-    ghost use Rattle.sw_tree.specs.OptionRanks.{options_apart};
-    ghost use Rattle.sw_tree.specs.OptionSame.{options_same, options_alike};
+    ghost use Rattle.sw_tree.specs.Laws.OptionRanks.{options_apart};
+    ghost use Rattle.sw_tree.specs.Laws.OptionSame.{options_same, options_alike};
 
     ghost apart = { options_apart T.is_meaning T.order T.apart };
 
@@ -88,7 +89,8 @@ impl<T: Meant> Meant for Vec<T> {
 }
 
 impl<T: Ranked> Ranked for Vec<T> {
-    ghost use Rattle.sw_tree.specs.ListRanks.{list_order, list_ranks, slice_order};
+    ghost use Rattle.sw_tree.specs.ListRanks.{list_order};
+    ghost use Rattle.sw_tree.specs.Laws.ListRanks.{list_ranks, slice_order};
 
     ghost order = { list_order T.order };
 
@@ -98,8 +100,8 @@ impl<T: Ranked> Ranked for Vec<T> {
 }
 
 impl<T: Keyed> Keyed for Vec<T> {
-    ghost use Rattle.sw_tree.specs.ListRanks.{lists_apart};
-    ghost use Rattle.sw_tree.specs.ListSame.{lists_same, lists_alike};
+    ghost use Rattle.sw_tree.specs.Laws.ListRanks.{lists_apart};
+    ghost use Rattle.sw_tree.specs.Laws.ListSame.{lists_same, lists_alike};
 
     ghost apart = { lists_apart T.is_meaning T.order T.apart };
 
@@ -123,7 +125,8 @@ impl<T: Meant, const N: usize> Meant for [T; N] {
 }
 
 impl<T: Ranked, const N: usize> Ranked for [T; N] {
-    ghost use Rattle.sw_tree.specs.ListRanks.{list_order, array_ranks, slice_order};
+    ghost use Rattle.sw_tree.specs.ListRanks.{list_order};
+    ghost use Rattle.sw_tree.specs.Laws.ListRanks.{array_ranks, slice_order};
 
     ghost order = { list_order T.order };
 
@@ -133,8 +136,8 @@ impl<T: Ranked, const N: usize> Ranked for [T; N] {
 }
 
 impl<T: Keyed, const N: usize> Keyed for [T; N] {
-    ghost use Rattle.sw_tree.specs.ListRanks.{arrays_apart};
-    ghost use Rattle.sw_tree.specs.ListSame.{arrays_same, arrays_alike};
+    ghost use Rattle.sw_tree.specs.Laws.ListRanks.{arrays_apart};
+    ghost use Rattle.sw_tree.specs.Laws.ListSame.{arrays_same, arrays_alike};
 
     ghost apart = { arrays_apart T.is_meaning T.order T.apart N };
 
@@ -160,7 +163,8 @@ impl<A: Meant, B: Meant> Meant for (A, B) {
 
 impl<A: Ranked, B: Ranked> Ranked for (A, B) {
     ghost use Rattle.std.specs.Ordering.{ordering_then};
-    ghost use Rattle.sw_tree.specs.PairRanks.{pair_order, pair_ranks};
+    ghost use Rattle.sw_tree.specs.PairRanks.{pair_order};
+    ghost use Rattle.sw_tree.specs.Laws.PairRanks.{pair_ranks};
 
     ghost order = { pair_order A.order B.order };
 
@@ -170,8 +174,8 @@ impl<A: Ranked, B: Ranked> Ranked for (A, B) {
 }
 
 impl<A: Keyed, B: Keyed> Keyed for (A, B) {
-    ghost use Rattle.sw_tree.specs.PairRanks.{pairs_apart};
-    ghost use Rattle.sw_tree.specs.PairSame.{pairs_same, pairs_alike};
+    ghost use Rattle.sw_tree.specs.Laws.PairRanks.{pairs_apart};
+    ghost use Rattle.sw_tree.specs.Laws.PairSame.{pairs_same, pairs_alike};
 
     ghost apart = { pairs_apart A.is_meaning B.is_meaning A.order B.order A.apart B.apart };
 

@@ -18,10 +18,11 @@ pub struct Doc<'de> {
 
 impl<'de> Model for Doc<'de> {
     ghost use Rattle.std.specs.Prelude.{length};
-    ghost use Rattle.sw_tree.specs.Doc.{Document, coded_document};
-    ghost use Rattle.sw_tree.specs.Cells.{Formed};
-    ghost use Rattle.sw_tree.specs.Sheet.{sheet_store, sheet_tree};
-    ghost use Rattle.sw_tree.specs.Held.{held_sheet};
+    ghost use Rattle.sw_tree.specs.Doc.{Document};
+    ghost use Rattle.sw_tree.specs.Inner.Doc.{coded_document};
+    ghost use Rattle.sw_tree.specs.Inner.Cells.{Formed};
+    ghost use Rattle.sw_tree.specs.Inner.Sheet.{sheet_store, sheet_tree};
+    ghost use Rattle.sw_tree.specs.Inner.Held.{held_sheet};
 
     ghost Value = { Document };
 
@@ -38,8 +39,8 @@ impl<'de> Model for Doc<'de> {
 impl<'de> Doc<'de> {
     ghost use Rattle.std.specs.Prelude.{◌≡◌, ◌<◌, length, true, false, IfOk};
     ghost use Rattle.sw_tree.specs.Tree.{content_len};
-    ghost use Rattle.sw_tree.specs.View.{seen};
-    ghost use Rattle.sw_tree.specs.Cells.{forest, Formed, first};
+    ghost use Rattle.sw_tree.specs.Inner.View.{seen};
+    ghost use Rattle.sw_tree.specs.Inner.Cells.{forest, Formed, first};
 
     /// The document of these cells, whose first is the root's.
     pub(crate) fn from_cells(

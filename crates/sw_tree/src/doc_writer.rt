@@ -1,6 +1,6 @@
 ghost use Rattle.std.specs.Prelude.{◌≡◌, Ok, Some, true, is_some};
 ghost use Rattle.sw_tree.specs.Building.{IsBuilt};
-ghost use Rattle.sw_tree.specs.DocWriter.{with_room, close_doc, built_of, document};
+ghost use Rattle.sw_tree.specs.Inner.DocWriter.{with_room, close_doc, built_of, document};
 
 use crate::builder::DocBuilder;
 use crate::builds::Builds;
@@ -25,7 +25,7 @@ pub(crate) struct DocWriter<'de> {
 
 impl<'de> Model for DocWriter<'de> {
     ghost use Rattle.std.specs.Prelude.{reverse};
-    ghost use Rattle.sw_tree.specs.DocWriter.{Draft, coded_draft};
+    ghost use Rattle.sw_tree.specs.Inner.DocWriter.{Draft, coded_draft};
 
     ghost Value = { Draft };
 
@@ -76,7 +76,7 @@ fn built(answer: Result<(), AllocError>) -> Result<(), SerFail>
 }
 
 impl<'de> DocWriter<'de> {
-    ghost use Rattle.sw_tree.specs.DocWriter.{fresh, opened};
+    ghost use Rattle.sw_tree.specs.Inner.DocWriter.{fresh, opened};
 
     /// Nothing open and no root. It takes no memory.
     pub(crate) fn new(alloc: Global) -> DocWriter<'de>
@@ -122,7 +122,8 @@ impl<'de> DocWriter<'de> {
 }
 
 impl<'de> Builds for DocWriter<'de> {
-    ghost use Rattle.sw_tree.specs.DocWriter.{put, opened, closed, lists, maps};
+    ghost use Rattle.sw_tree.specs.Inner.DocWriter.{put, opened, closed};
+    ghost use Rattle.sw_tree.specs.Laws.DocWriter.{lists, maps};
 
     ghost put = { put };
 

@@ -2,8 +2,9 @@
 
 ghost use Rattle.std.specs.Prelude.{◌≡◌};
 ghost use Rattle.sw_tree.specs.Seen.{place_at};
-ghost use Rattle.sw_tree.specs.View.{seen};
-ghost use Rattle.sw_tree.specs.ForeignSeen.{foreign_seen, foreign_key_seen, foreign_each, foreign_each_entry};
+ghost use Rattle.sw_tree.specs.Inner.View.{seen};
+ghost use Rattle.sw_tree.specs.ForeignSeen.{foreign_seen};
+ghost use Rattle.sw_tree.specs.Inner.ForeignSeen.{foreign_key_seen, foreign_each, foreign_each_entry};
 
 use crate::fail::{DeError, Refusal};
 use crate::mode::Kind;

@@ -1,5 +1,5 @@
 ghost use Rattle.std.specs.Prelude.{◌≡◌, IfOk};
-ghost use Rattle.sw_tree.specs.Held.{held_sheet};
+ghost use Rattle.sw_tree.specs.Inner.Held.{held_sheet};
 
 use crate::sheet::Sheet;
 use std::alloc::{AllocError, Global};

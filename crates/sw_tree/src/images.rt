@@ -3,8 +3,8 @@
 
 ghost use Rattle.std.specs.Prelude.{◌≡◌, ◌≤◌, IfOk};
 ghost use Rattle.sw_tree.specs.Tree.{list, trees, entries, depth};
-ghost use Rattle.sw_tree.specs.Seen.{trees_of, pairs_of};
-ghost use Rattle.sw_tree.specs.View.{tree_of};
+ghost use Rattle.sw_tree.specs.Inner.Seen.{trees_of, pairs_of};
+ghost use Rattle.sw_tree.specs.Inner.View.{tree_of};
 ghost use Rattle.sw_tree.specs.Image as image;
 ghost use Rattle.sw_tree.specs.Image.{numbers, value_image, trees_image, entries_image};
 ghost use Rattle.sw_tree.specs.Imaged.{MeansImage, IsImaged};

@@ -14,10 +14,10 @@ pub(crate) struct Kept {
 
 impl Model for Kept {
     ghost use Rattle.sw_tree.specs.Tree.{Tree};
-    ghost use Rattle.sw_tree.specs.TreeCode.{coded_tree};
-    ghost use Rattle.sw_tree.specs.Cells.{Formed};
-    ghost use Rattle.sw_tree.specs.Sheet.{sheet_store, sheet_tree};
-    ghost use Rattle.sw_tree.specs.Held.{held_sheet};
+    ghost use Rattle.sw_tree.specs.Inner.TreeCode.{coded_tree};
+    ghost use Rattle.sw_tree.specs.Inner.Cells.{Formed};
+    ghost use Rattle.sw_tree.specs.Inner.Sheet.{sheet_store, sheet_tree};
+    ghost use Rattle.sw_tree.specs.Inner.Held.{held_sheet};
 
     ghost Value = { Tree };
 
@@ -30,11 +30,11 @@ impl Model for Kept {
 
 impl Kept {
     ghost use Rattle.std.specs.Prelude.{◌≡◌, ◌<◌, ◌+◌, true, IfOk, length, get_or, drop};
-    ghost use Rattle.sw_tree.specs.View.{seen};
-    ghost use Rattle.sw_tree.specs.Cells.{Formed, forest, first, below};
+    ghost use Rattle.sw_tree.specs.Inner.View.{seen};
+    ghost use Rattle.sw_tree.specs.Inner.Cells.{Formed, forest, first, below};
     ghost use Rattle.sw_tree.specs.declared.cell.Cell.TheVariants.{Null};
-    ghost use Rattle.sw_tree.specs.Sheet.{sheet_store, sheet_tree};
-    ghost use Rattle.sw_tree.specs.Held.{held_sheet};
+    ghost use Rattle.sw_tree.specs.Inner.Sheet.{sheet_store, sheet_tree};
+    ghost use Rattle.sw_tree.specs.Inner.Held.{held_sheet};
 
     /// The document of that input, copied, and of that sheet, copied where it isn't shared.
     pub(crate) fn root(alloc: Global, input: &[u8], held: &Held) -> Result<Kept, AllocError>

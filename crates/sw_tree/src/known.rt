@@ -3,8 +3,8 @@
 
 ghost use Rattle.std.specs.Prelude.{◌≡◌};
 ghost use Rattle.sw_tree.specs.Tree.{truth, int, text, bytes, list, map, trees, entries, kind_of};
-ghost use Rattle.sw_tree.specs.Seen.{trees_of, pairs_of};
-ghost use Rattle.sw_tree.specs.View.{tree_of};
+ghost use Rattle.sw_tree.specs.Inner.Seen.{trees_of, pairs_of};
+ghost use Rattle.sw_tree.specs.Inner.View.{tree_of};
 
 use crate::mode::Kind;
 use crate::view::{Entries, Items, View};

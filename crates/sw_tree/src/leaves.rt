@@ -21,7 +21,8 @@ impl Meant for () {
 impl Ranked for () {
     ghost use Rattle.std.specs.Prelude.{refl};
     ghost use Rattle.sw_tree.specs.Meant.{IsNothing};
-    ghost use Rattle.sw_tree.specs.LeafRanks.{level_order, level_ranks};
+    ghost use Rattle.sw_tree.specs.LeafRanks.{level_order};
+    ghost use Rattle.sw_tree.specs.Laws.LeafRanks.{level_ranks};
 
     ghost order = { level_order };
 
@@ -32,7 +33,7 @@ impl Ranked for () {
 
 impl Keyed for () {
     ghost use Rattle.std.specs.Prelude.{refl};
-    ghost use Rattle.sw_tree.specs.LeafRanks.{nothing_apart};
+    ghost use Rattle.sw_tree.specs.Laws.LeafRanks.{nothing_apart};
 
     ghost apart = { nothing_apart };
 
@@ -59,7 +60,8 @@ impl Meant for bool {
 impl Ranked for bool {
     ghost use Rattle.std.specs.Prelude.{refl};
     ghost use Rattle.sw_tree.specs.Meant.{IsTruth};
-    ghost use Rattle.sw_tree.specs.LeafRanks.{truth_order, truth_ranks};
+    ghost use Rattle.sw_tree.specs.LeafRanks.{truth_order};
+    ghost use Rattle.sw_tree.specs.Laws.LeafRanks.{truth_ranks};
 
     ghost order = { truth_order };
 
@@ -71,8 +73,8 @@ impl Ranked for bool {
 impl Keyed for bool {
     ghost use Rattle.std.specs.Cmp.{booleans_Decides};
     ghost use Rattle.std.specs.Hash as fed;
-    ghost use Rattle.sw_tree.specs.LeafRanks.{truth_apart};
-    ghost use Rattle.sw_tree.specs.LeafSame.{truths_same, truths_alike};
+    ghost use Rattle.sw_tree.specs.Laws.LeafRanks.{truth_apart};
+    ghost use Rattle.sw_tree.specs.Laws.LeafSame.{truths_same, truths_alike};
 
     ghost apart = { truth_apart };
 
@@ -98,7 +100,8 @@ impl Meant for char {
 
 impl Ranked for char {
     ghost use Rattle.sw_tree.specs.Meant.{IsCharText};
-    ghost use Rattle.sw_tree.specs.CharRanks.{char_order, char_order-is, char_ranks};
+    ghost use Rattle.sw_tree.specs.CharRanks.{char_order};
+    ghost use Rattle.sw_tree.specs.Laws.CharRanks.{char_order-is, char_ranks};
 
     ghost order = { char_order };
 
@@ -109,8 +112,8 @@ impl Ranked for char {
 
 impl Keyed for char {
     ghost use Rattle.std.specs.Hash as fed;
-    ghost use Rattle.sw_tree.specs.CharRanks.{chars_apart};
-    ghost use Rattle.sw_tree.specs.LeafSame.{chars_same, chars_alike};
+    ghost use Rattle.sw_tree.specs.Laws.CharRanks.{chars_apart};
+    ghost use Rattle.sw_tree.specs.Laws.LeafSame.{chars_same, chars_alike};
 
     ghost apart = { chars_apart };
 
@@ -136,7 +139,8 @@ impl Meant for String {
 impl Ranked for String {
     ghost use Rattle.std.specs.Prelude.{refl};
     ghost use Rattle.sw_tree.specs.Meant.{IsText};
-    ghost use Rattle.sw_tree.specs.LeafRanks.{text_order, text_ranks};
+    ghost use Rattle.sw_tree.specs.LeafRanks.{text_order};
+    ghost use Rattle.sw_tree.specs.Laws.LeafRanks.{text_ranks};
 
     ghost order = { text_order };
 
@@ -147,8 +151,8 @@ impl Ranked for String {
 
 impl Keyed for String {
     ghost use Rattle.std.specs.Hash as fed;
-    ghost use Rattle.sw_tree.specs.LeafRanks.{texts_apart};
-    ghost use Rattle.sw_tree.specs.LeafSame.{texts_same, texts_alike};
+    ghost use Rattle.sw_tree.specs.Laws.LeafRanks.{texts_apart};
+    ghost use Rattle.sw_tree.specs.Laws.LeafSame.{texts_same, texts_alike};
 
     ghost apart = { texts_apart };
 

@@ -2,8 +2,8 @@
 
 ghost use Rattle.std.specs.Prelude.{◌≡◌};
 ghost use Rattle.sw_tree.specs.Tree.{depth, trees, trees_depth, entries, entries_depth};
-ghost use Rattle.sw_tree.specs.Seen.{trees_of, pairs_of};
-ghost use Rattle.sw_tree.specs.View.{tree_of};
+ghost use Rattle.sw_tree.specs.Inner.Seen.{trees_of, pairs_of};
+ghost use Rattle.sw_tree.specs.Inner.View.{tree_of};
 
 use crate::view::{Entries, Items, View};
 

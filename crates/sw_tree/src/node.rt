@@ -47,13 +47,13 @@ pub(crate) enum Shape {
 impl Model for Node {
     ghost use Rattle.std.specs.Prelude.{◌≡◌, ◌≤◌};
     ghost use Rattle.sw_tree.specs.Tree.{Tree, depth};
-    ghost use Rattle.sw_tree.specs.TreeCode.{coded_tree};
+    ghost use Rattle.sw_tree.specs.Inner.TreeCode.{coded_tree};
 
     ghost Value = { Tree };
 
     ghost coded = { coded_tree };
 
-    ghost use Rattle.sw_tree.specs.NodeShape.{shape_tree, Counts, IsMarked};
+    ghost use Rattle.sw_tree.specs.Inner.NodeShape.{shape_tree, Counts, IsMarked};
     ghost use Rattle.sw_tree.specs.Proper.{IsProper};
     ghost use Rattle.sw_tree.specs.Short.{IsShort};
 
@@ -63,7 +63,7 @@ impl Model for Node {
 
     ghost size = { depth };
 
-    ghost use Rattle.sw_tree.specs.NodeFalls.{deep_le-depth};
+    ghost use Rattle.sw_tree.specs.Laws.NodeFalls.{deep_le-depth};
 
     ghost size_decreases = { λ a h. deep_le-depth a.shape };
 }
@@ -72,7 +72,7 @@ impl Node {
     ghost use Rattle.std.specs.Prelude.{MatchResult};
     ghost use Rattle.std.specs.Option.{option_copied};
     ghost use Rattle.sw_tree.specs.Tree.{text_at, bytes_at, truth_at, int_at};
-    ghost use Rattle.sw_tree.specs.Content.{content_tree};
+    ghost use Rattle.sw_tree.specs.Inner.Content.{content_tree};
 
     /// The null.
     pub fn null() -> Node

@@ -31,7 +31,8 @@ pub struct NodeBuilder {
 
 impl Model for NodeBuilder {
     ghost use Rattle.std.specs.Prelude.{reverse, map};
-    ghost use Rattle.sw_tree.specs.NodeBuilder.{Nodes, coded_nodes};
+    ghost use Rattle.sw_tree.specs.NodeBuilder.{Nodes};
+    ghost use Rattle.sw_tree.specs.Inner.NodeBuilder.{coded_nodes};
 
     ghost Value = { Nodes };
 
@@ -130,7 +131,8 @@ impl NodeBuilder {
 }
 
 impl Builds for NodeBuilder {
-    ghost use Rattle.sw_tree.specs.NodeBuilder.{put, opened, closed, lists, maps};
+    ghost use Rattle.sw_tree.specs.NodeBuilder.{put, opened, closed};
+    ghost use Rattle.sw_tree.specs.Laws.NodeBuilder.{lists, maps};
 
     ghost put = { put };
 

@@ -3,7 +3,8 @@
 ghost use Rattle.std.specs.Prelude.{◌≡◌, ◌∷◌, IfOk, SomeIff, string_bytes};
 ghost use Rattle.std.specs.Fmt.{signed_decimal};
 ghost use Rattle.sw_tree.specs.Number as number;
-ghost use Rattle.sw_tree.specs.Number.{value_of, AreFew, AreWide, IsWideInt};
+ghost use Rattle.sw_tree.specs.Number.{value_of, AreFew};
+ghost use Rattle.sw_tree.specs.Inner.Number.{AreWide, IsWideInt};
 
 use crate::whole::Whole;
 use itoa::Buffer;

@@ -1,7 +1,7 @@
 //! What the cells of a part of a document point into, and the cells moved to where that begins.
 
 ghost use Rattle.std.specs.Prelude.{◌≡◌, ◌≤◌, map, length, slice_range, IfOk};
-ghost use Rattle.sw_tree.specs.Moved as spec;
+ghost use Rattle.sw_tree.specs.Inner.Moved as spec;
 
 use crate::cell::{Cell, Span};
 use std::alloc::{AllocError, Global};

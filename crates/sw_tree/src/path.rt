@@ -1,7 +1,8 @@
 ghost use Rattle.std.specs.Prelude.{◌≡◌, ◌<◌, ◌++◌, OnOk, string_bytes, length, if◌then◌else◌, Some, None, option_map, slice_get, IfOk, MatchOption};
 ghost use Rattle.sw_tree.specs.PathText.{step_text};
-ghost use Rattle.sw_tree.specs.View.{seen};
-ghost use Rattle.sw_tree.specs.Path.{child, node_seen, HasPlace, Holds, HoldsPair, IsNear, Nearer, Leads};
+ghost use Rattle.sw_tree.specs.Inner.View.{seen};
+ghost use Rattle.sw_tree.specs.Path.{child, node_seen, HasPlace, Leads};
+ghost use Rattle.sw_tree.specs.Inner.Path.{Holds, HoldsPair, IsNear, Nearer};
 
 use crate::view::{Entries, Items, View};
 use itoa::Buffer;

@@ -23,7 +23,8 @@ impl Ranked for i8 {
     ghost use Rattle.std.specs.Prelude.{refl};
     ghost use Rattle.std.specs.Int.{w8};
     ghost use Rattle.sw_tree.specs.Meant.{IsSigned};
-    ghost use Rattle.sw_tree.specs.LeafRanks.{number_order, number_ranks};
+    ghost use Rattle.sw_tree.specs.LeafRanks.{number_order};
+    ghost use Rattle.sw_tree.specs.Laws.LeafRanks.{number_ranks};
 
     ghost order = { number_order };
 
@@ -36,8 +37,8 @@ impl Keyed for i8 {
     ghost use Rattle.std.specs.Int.{w8};
     ghost use Rattle.std.specs.Hash as fed;
     ghost use Rattle.sw_tree.specs.Meant.{IsSigned};
-    ghost use Rattle.sw_tree.specs.LeafRanks.{signed_apart};
-    ghost use Rattle.sw_tree.specs.LeafSame.{numbers_same, numbers_alike};
+    ghost use Rattle.sw_tree.specs.Laws.LeafRanks.{signed_apart};
+    ghost use Rattle.sw_tree.specs.Laws.LeafSame.{numbers_same, numbers_alike};
 
     ghost apart = { signed_apart w8 };
 
@@ -66,7 +67,8 @@ impl Ranked for i16 {
     ghost use Rattle.std.specs.Prelude.{refl};
     ghost use Rattle.std.specs.Int.{w16};
     ghost use Rattle.sw_tree.specs.Meant.{IsSigned};
-    ghost use Rattle.sw_tree.specs.LeafRanks.{number_order, number_ranks};
+    ghost use Rattle.sw_tree.specs.LeafRanks.{number_order};
+    ghost use Rattle.sw_tree.specs.Laws.LeafRanks.{number_ranks};
 
     ghost order = { number_order };
 
@@ -79,8 +81,8 @@ impl Keyed for i16 {
     ghost use Rattle.std.specs.Int.{w16};
     ghost use Rattle.std.specs.Hash as fed;
     ghost use Rattle.sw_tree.specs.Meant.{IsSigned};
-    ghost use Rattle.sw_tree.specs.LeafRanks.{signed_apart};
-    ghost use Rattle.sw_tree.specs.LeafSame.{numbers_same, numbers_alike};
+    ghost use Rattle.sw_tree.specs.Laws.LeafRanks.{signed_apart};
+    ghost use Rattle.sw_tree.specs.Laws.LeafSame.{numbers_same, numbers_alike};
 
     ghost apart = { signed_apart w16 };
 
@@ -109,7 +111,8 @@ impl Ranked for i32 {
     ghost use Rattle.std.specs.Prelude.{refl};
     ghost use Rattle.std.specs.Int.{w32};
     ghost use Rattle.sw_tree.specs.Meant.{IsSigned};
-    ghost use Rattle.sw_tree.specs.LeafRanks.{number_order, number_ranks};
+    ghost use Rattle.sw_tree.specs.LeafRanks.{number_order};
+    ghost use Rattle.sw_tree.specs.Laws.LeafRanks.{number_ranks};
 
     ghost order = { number_order };
 
@@ -122,8 +125,8 @@ impl Keyed for i32 {
     ghost use Rattle.std.specs.Int.{w32};
     ghost use Rattle.std.specs.Hash as fed;
     ghost use Rattle.sw_tree.specs.Meant.{IsSigned};
-    ghost use Rattle.sw_tree.specs.LeafRanks.{signed_apart};
-    ghost use Rattle.sw_tree.specs.LeafSame.{numbers_same, numbers_alike};
+    ghost use Rattle.sw_tree.specs.Laws.LeafRanks.{signed_apart};
+    ghost use Rattle.sw_tree.specs.Laws.LeafSame.{numbers_same, numbers_alike};
 
     ghost apart = { signed_apart w32 };
 
@@ -152,7 +155,8 @@ impl Ranked for i64 {
     ghost use Rattle.std.specs.Prelude.{refl};
     ghost use Rattle.std.specs.Int.{w64};
     ghost use Rattle.sw_tree.specs.Meant.{IsSigned};
-    ghost use Rattle.sw_tree.specs.LeafRanks.{number_order, number_ranks};
+    ghost use Rattle.sw_tree.specs.LeafRanks.{number_order};
+    ghost use Rattle.sw_tree.specs.Laws.LeafRanks.{number_ranks};
 
     ghost order = { number_order };
 
@@ -165,8 +169,8 @@ impl Keyed for i64 {
     ghost use Rattle.std.specs.Int.{w64};
     ghost use Rattle.std.specs.Hash as fed;
     ghost use Rattle.sw_tree.specs.Meant.{IsSigned};
-    ghost use Rattle.sw_tree.specs.LeafRanks.{signed_apart};
-    ghost use Rattle.sw_tree.specs.LeafSame.{numbers_same, numbers_alike};
+    ghost use Rattle.sw_tree.specs.Laws.LeafRanks.{signed_apart};
+    ghost use Rattle.sw_tree.specs.Laws.LeafSame.{numbers_same, numbers_alike};
 
     ghost apart = { signed_apart w64 };
 
@@ -195,7 +199,8 @@ impl Ranked for i128 {
     ghost use Rattle.std.specs.Prelude.{refl};
     ghost use Rattle.std.specs.Int.{w128};
     ghost use Rattle.sw_tree.specs.Meant.{IsSigned};
-    ghost use Rattle.sw_tree.specs.LeafRanks.{number_order, number_ranks};
+    ghost use Rattle.sw_tree.specs.LeafRanks.{number_order};
+    ghost use Rattle.sw_tree.specs.Laws.LeafRanks.{number_ranks};
 
     ghost order = { number_order };
 
@@ -208,8 +213,8 @@ impl Keyed for i128 {
     ghost use Rattle.std.specs.Int.{w128};
     ghost use Rattle.std.specs.Hash as fed;
     ghost use Rattle.sw_tree.specs.Meant.{IsSigned};
-    ghost use Rattle.sw_tree.specs.LeafRanks.{signed_apart};
-    ghost use Rattle.sw_tree.specs.LeafSame.{numbers_same, numbers_alike};
+    ghost use Rattle.sw_tree.specs.Laws.LeafRanks.{signed_apart};
+    ghost use Rattle.sw_tree.specs.Laws.LeafSame.{numbers_same, numbers_alike};
 
     ghost apart = { signed_apart w128 };
 
@@ -238,7 +243,8 @@ impl Ranked for isize {
     ghost use Rattle.std.specs.Prelude.{refl};
     ghost use Rattle.std.specs.Int.{w64};
     ghost use Rattle.sw_tree.specs.Meant.{IsSigned};
-    ghost use Rattle.sw_tree.specs.LeafRanks.{number_order, number_ranks};
+    ghost use Rattle.sw_tree.specs.LeafRanks.{number_order};
+    ghost use Rattle.sw_tree.specs.Laws.LeafRanks.{number_ranks};
 
     ghost order = { number_order };
 
@@ -251,8 +257,8 @@ impl Keyed for isize {
     ghost use Rattle.std.specs.Int.{w64};
     ghost use Rattle.std.specs.Hash as fed;
     ghost use Rattle.sw_tree.specs.Meant.{IsSigned};
-    ghost use Rattle.sw_tree.specs.LeafRanks.{signed_apart};
-    ghost use Rattle.sw_tree.specs.LeafSame.{numbers_same, numbers_alike};
+    ghost use Rattle.sw_tree.specs.Laws.LeafRanks.{signed_apart};
+    ghost use Rattle.sw_tree.specs.Laws.LeafSame.{numbers_same, numbers_alike};
 
     ghost apart = { signed_apart w64 };
 

@@ -3,7 +3,7 @@
 
 ghost use Rattle.std.specs.Prelude.{◌≡◌, IfOk, None};
 ghost use Rattle.sw_tree.specs.Tree.{items_at, pairs_at};
-ghost use Rattle.sw_tree.specs.View.{tree_of};
+ghost use Rattle.sw_tree.specs.Inner.View.{tree_of};
 
 use crate::node::Node;
 use crate::view::View;

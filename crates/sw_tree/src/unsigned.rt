@@ -21,7 +21,8 @@ impl Meant for u8 {
 impl Ranked for u8 {
     ghost use Rattle.std.specs.Prelude.{◌^◌};
     ghost use Rattle.sw_tree.specs.Meant.{IsBelow};
-    ghost use Rattle.sw_tree.specs.LeafRanks.{number_order, number_ranks, unsigned_order};
+    ghost use Rattle.sw_tree.specs.LeafRanks.{number_order};
+    ghost use Rattle.sw_tree.specs.Laws.LeafRanks.{number_ranks, unsigned_order};
 
     ghost order = { number_order };
 
@@ -34,8 +35,8 @@ impl Keyed for u8 {
     ghost use Rattle.std.specs.Prelude.{◌^◌};
     ghost use Rattle.std.specs.Hash as fed;
     ghost use Rattle.sw_tree.specs.Meant.{IsBelow};
-    ghost use Rattle.sw_tree.specs.LeafRanks.{below_apart};
-    ghost use Rattle.sw_tree.specs.LeafSame.{unsigned_same, unsigned_alike};
+    ghost use Rattle.sw_tree.specs.Laws.LeafRanks.{below_apart};
+    ghost use Rattle.sw_tree.specs.Laws.LeafSame.{unsigned_same, unsigned_alike};
 
     ghost apart = { below_apart (2 ^ 8) };
 
@@ -62,7 +63,8 @@ impl Meant for u16 {
 impl Ranked for u16 {
     ghost use Rattle.std.specs.Prelude.{◌^◌};
     ghost use Rattle.sw_tree.specs.Meant.{IsBelow};
-    ghost use Rattle.sw_tree.specs.LeafRanks.{number_order, number_ranks, unsigned_order};
+    ghost use Rattle.sw_tree.specs.LeafRanks.{number_order};
+    ghost use Rattle.sw_tree.specs.Laws.LeafRanks.{number_ranks, unsigned_order};
 
     ghost order = { number_order };
 
@@ -75,8 +77,8 @@ impl Keyed for u16 {
     ghost use Rattle.std.specs.Prelude.{◌^◌};
     ghost use Rattle.std.specs.Hash as fed;
     ghost use Rattle.sw_tree.specs.Meant.{IsBelow};
-    ghost use Rattle.sw_tree.specs.LeafRanks.{below_apart};
-    ghost use Rattle.sw_tree.specs.LeafSame.{unsigned_same, unsigned_alike};
+    ghost use Rattle.sw_tree.specs.Laws.LeafRanks.{below_apart};
+    ghost use Rattle.sw_tree.specs.Laws.LeafSame.{unsigned_same, unsigned_alike};
 
     ghost apart = { below_apart (2 ^ 16) };
 
@@ -103,7 +105,8 @@ impl Meant for u32 {
 impl Ranked for u32 {
     ghost use Rattle.std.specs.Prelude.{◌^◌};
     ghost use Rattle.sw_tree.specs.Meant.{IsBelow};
-    ghost use Rattle.sw_tree.specs.LeafRanks.{number_order, number_ranks, unsigned_order};
+    ghost use Rattle.sw_tree.specs.LeafRanks.{number_order};
+    ghost use Rattle.sw_tree.specs.Laws.LeafRanks.{number_ranks, unsigned_order};
 
     ghost order = { number_order };
 
@@ -116,8 +119,8 @@ impl Keyed for u32 {
     ghost use Rattle.std.specs.Prelude.{◌^◌};
     ghost use Rattle.std.specs.Hash as fed;
     ghost use Rattle.sw_tree.specs.Meant.{IsBelow};
-    ghost use Rattle.sw_tree.specs.LeafRanks.{below_apart};
-    ghost use Rattle.sw_tree.specs.LeafSame.{unsigned_same, unsigned_alike};
+    ghost use Rattle.sw_tree.specs.Laws.LeafRanks.{below_apart};
+    ghost use Rattle.sw_tree.specs.Laws.LeafSame.{unsigned_same, unsigned_alike};
 
     ghost apart = { below_apart (2 ^ 32) };
 
@@ -144,7 +147,8 @@ impl Meant for u64 {
 impl Ranked for u64 {
     ghost use Rattle.std.specs.Prelude.{◌^◌};
     ghost use Rattle.sw_tree.specs.Meant.{IsBelow};
-    ghost use Rattle.sw_tree.specs.LeafRanks.{number_order, number_ranks, unsigned_order};
+    ghost use Rattle.sw_tree.specs.LeafRanks.{number_order};
+    ghost use Rattle.sw_tree.specs.Laws.LeafRanks.{number_ranks, unsigned_order};
 
     ghost order = { number_order };
 
@@ -157,8 +161,8 @@ impl Keyed for u64 {
     ghost use Rattle.std.specs.Prelude.{◌^◌};
     ghost use Rattle.std.specs.Hash as fed;
     ghost use Rattle.sw_tree.specs.Meant.{IsBelow};
-    ghost use Rattle.sw_tree.specs.LeafRanks.{below_apart};
-    ghost use Rattle.sw_tree.specs.LeafSame.{unsigned_same, unsigned_alike};
+    ghost use Rattle.sw_tree.specs.Laws.LeafRanks.{below_apart};
+    ghost use Rattle.sw_tree.specs.Laws.LeafSame.{unsigned_same, unsigned_alike};
 
     ghost apart = { below_apart (2 ^ 64) };
 
@@ -185,7 +189,8 @@ impl Meant for u128 {
 impl Ranked for u128 {
     ghost use Rattle.std.specs.Prelude.{◌^◌};
     ghost use Rattle.sw_tree.specs.Meant.{IsBelow};
-    ghost use Rattle.sw_tree.specs.LeafRanks.{number_order, number_ranks, unsigned_order};
+    ghost use Rattle.sw_tree.specs.LeafRanks.{number_order};
+    ghost use Rattle.sw_tree.specs.Laws.LeafRanks.{number_ranks, unsigned_order};
 
     ghost order = { number_order };
 
@@ -198,8 +203,8 @@ impl Keyed for u128 {
     ghost use Rattle.std.specs.Prelude.{◌^◌};
     ghost use Rattle.std.specs.Hash as fed;
     ghost use Rattle.sw_tree.specs.Meant.{IsBelow};
-    ghost use Rattle.sw_tree.specs.LeafRanks.{below_apart};
-    ghost use Rattle.sw_tree.specs.LeafSame.{unsigned_same, unsigned_alike};
+    ghost use Rattle.sw_tree.specs.Laws.LeafRanks.{below_apart};
+    ghost use Rattle.sw_tree.specs.Laws.LeafSame.{unsigned_same, unsigned_alike};
 
     ghost apart = { below_apart (2 ^ 128) };
 
@@ -226,7 +231,8 @@ impl Meant for usize {
 impl Ranked for usize {
     ghost use Rattle.std.specs.Prelude.{◌^◌};
     ghost use Rattle.sw_tree.specs.Meant.{IsBelow};
-    ghost use Rattle.sw_tree.specs.LeafRanks.{number_order, number_ranks, unsigned_order};
+    ghost use Rattle.sw_tree.specs.LeafRanks.{number_order};
+    ghost use Rattle.sw_tree.specs.Laws.LeafRanks.{number_ranks, unsigned_order};
 
     ghost order = { number_order };
 
@@ -239,8 +245,8 @@ impl Keyed for usize {
     ghost use Rattle.std.specs.Prelude.{◌^◌};
     ghost use Rattle.std.specs.Hash as fed;
     ghost use Rattle.sw_tree.specs.Meant.{IsBelow};
-    ghost use Rattle.sw_tree.specs.LeafRanks.{below_apart};
-    ghost use Rattle.sw_tree.specs.LeafSame.{unsigned_same, unsigned_alike};
+    ghost use Rattle.sw_tree.specs.Laws.LeafRanks.{below_apart};
+    ghost use Rattle.sw_tree.specs.Laws.LeafSame.{unsigned_same, unsigned_alike};
 
     ghost apart = { below_apart (2 ^ 64) };
 

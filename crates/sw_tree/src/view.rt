@@ -1,7 +1,8 @@
 ghost use Rattle.std.specs.Prelude.{◌<◌, ◌≤◌, ◌≡◌, length, IfOk};
-ghost use Rattle.sw_tree.specs.Cells.{Formed, IsText, part};
-ghost use Rattle.sw_tree.specs.Formed.{Formed-prop};
-ghost use Rattle.sw_tree.specs.Held.{IsHeld, IsHeld-prop};
+ghost use Rattle.sw_tree.specs.Inner.Cells.{Formed, IsText, part};
+ghost use Rattle.sw_tree.specs.Laws.Formed.{Formed-prop};
+ghost use Rattle.sw_tree.specs.Inner.Held.{IsHeld};
+ghost use Rattle.sw_tree.specs.Laws.Held.{IsHeld-prop};
 
 use crate::cell::{Cell, Span};
 use crate::held::Held;
@@ -40,14 +41,14 @@ impl<'a> View<'a> {
     ghost use Rattle.sw_tree.specs.Tree.{depth, size, kind_of, items_at, len_of, text_at, bytes_at, truth_at, int_at, pairs_at};
     ghost use Rattle.sw_tree.specs.Proper.{IsProper};
     ghost use Rattle.sw_tree.specs.Short.{IsShort};
-    ghost use Rattle.sw_tree.specs.Cells.{IsFine, arity, below, tree_at, forest};
+    ghost use Rattle.sw_tree.specs.Inner.Cells.{IsFine, arity, below, tree_at, forest};
     ghost use Rattle.sw_tree.specs.Seen.{Seen, items_seen, entries_seen};
-    ghost use Rattle.sw_tree.specs.Sheet.{sheet_store, sheet_tree};
-    ghost use Rattle.sw_tree.specs.Held.{held_sheet};
-    ghost use Rattle.sw_tree.specs.View.{seen, tree_of, place_in, store_of};
+    ghost use Rattle.sw_tree.specs.Inner.Sheet.{sheet_store, sheet_tree};
+    ghost use Rattle.sw_tree.specs.Inner.Held.{held_sheet};
+    ghost use Rattle.sw_tree.specs.Inner.View.{seen, tree_of, place_in, store_of};
 
     /// The root, which stands at 0 where it counts, and is fixed at that place otherwise.
-    #[tactic(auto, unfolding(crate::specs::View::seen))]
+    #[tactic(auto, unfolding(crate::specs::Inner::View::seen))]
     pub(crate) fn root(input: &'a [u8], held: &'a Held, counts: bool, fixed: usize) -> View<'a>
         requires { Formed (sheet_store input.now (held_sheet held.now)) (held_sheet held.now).cells.items }
         ensures { seen result
@@ -69,7 +70,7 @@ impl<'a> View<'a> {
 
     /// The node's place: its number in the document, from 0 in preorder, a key before its
     /// value; or the place at which the document is fixed.
-    #[tactic(auto, unfolding(crate::specs::View::seen))]
+    #[tactic(auto, unfolding(crate::specs::Inner::View::seen))]
     pub fn place(&self) -> usize
         ensures { result ≡ (seen self.now).place }
     {
@@ -79,7 +80,7 @@ impl<'a> View<'a> {
 
     /// Whether the places of the nodes below count on from this one's; where the document
     /// is fixed at a place, they don't.
-    #[tactic(auto, unfolding(crate::specs::View::seen))]
+    #[tactic(auto, unfolding(crate::specs::Inner::View::seen))]
     pub fn counts(&self) -> bool
         ensures { result ≡ (seen self.now).counts }
     {
@@ -135,7 +136,7 @@ impl<'a> View<'a> {
     }
 
     /// The place behind a counting node and all below it.
-    #[tactic(auto, unfolding(crate::specs::View::seen))]
+    #[tactic(auto, unfolding(crate::specs::Inner::View::seen))]
     pub(crate) fn end(self) -> usize
         requires { (seen self).counts ≡ true }
         ensures { result ≡ (seen self.entry).place + size (tree_of self.entry) }
@@ -265,7 +266,7 @@ impl<'a> View<'a> {
     }
 
     /// The document of the node alone, copied.
-    #[tactic(auto, unfolding(crate::specs::View::seen))]
+    #[tactic(auto, unfolding(crate::specs::Inner::View::seen))]
     fn kept(self, alloc: Global) -> Result<Kept, AllocError>
         ensures { IfOk result (λ k. k ≡ tree_of self.entry) }
     {
@@ -300,16 +301,17 @@ pub struct Items<'a> {
 impl<'a> Model for Items<'a> {
     ghost use Rattle.std.specs.Prelude.{List, ◌≤◌, length, take, drop};
     ghost use Rattle.std.specs.Coded.{coded_list};
-    ghost use Rattle.sw_tree.specs.Seen.{Seen, coded_seen, row};
-    ghost use Rattle.sw_tree.specs.View.{place_in};
-    ghost use Rattle.sw_tree.specs.Sheet.{sheet_store};
+    ghost use Rattle.sw_tree.specs.Seen.{Seen, row};
+    ghost use Rattle.sw_tree.specs.Inner.Seen.{coded_seen};
+    ghost use Rattle.sw_tree.specs.Inner.View.{place_in};
+    ghost use Rattle.sw_tree.specs.Inner.Sheet.{sheet_store};
 
     ghost Value = { List Seen };
 
     ghost coded = { coded_list coded_seen };
 
-    ghost use Rattle.sw_tree.specs.Cells.{forest, Formed};
-    ghost use Rattle.sw_tree.specs.Held.{IsHeld};
+    ghost use Rattle.sw_tree.specs.Inner.Cells.{forest, Formed};
+    ghost use Rattle.sw_tree.specs.Inner.Held.{IsHeld};
 
     ghost view = { λ a. row a.counts (place_in a.counts a.fixed a.at) (take a.left (forest (sheet_store a.input.now a.sheet.now) (drop a.at a.sheet.now.cells.items))) };
 
@@ -318,7 +320,7 @@ impl<'a> Model for Items<'a> {
 
 impl<'a> Iterator for Items<'a> {
     ghost use Rattle.std.specs.Iterator.{YieldsFirstBy, item_count};
-    ghost use Rattle.sw_tree.specs.View.{seen};
+    ghost use Rattle.sw_tree.specs.Inner.View.{seen};
 
     type Item = View<'a>;
 
@@ -360,16 +362,17 @@ impl<'a> Model for Entries<'a> {
     ghost use Rattle.std.specs.Prelude.{List, ◌+◌, ◌≤◌, length, take, drop};
     ghost use Rattle.std.specs.Coded.{coded_list, coded×};
     ghost use Rattle.sw_tree.specs.Tree.{turns};
-    ghost use Rattle.sw_tree.specs.Seen.{Seen, coded_seen, entry_row};
-    ghost use Rattle.sw_tree.specs.View.{place_in};
-    ghost use Rattle.sw_tree.specs.Sheet.{sheet_store};
+    ghost use Rattle.sw_tree.specs.Seen.{Seen, entry_row};
+    ghost use Rattle.sw_tree.specs.Inner.Seen.{coded_seen};
+    ghost use Rattle.sw_tree.specs.Inner.View.{place_in};
+    ghost use Rattle.sw_tree.specs.Inner.Sheet.{sheet_store};
 
     ghost Value = { List (Seen × Seen) };
 
     ghost coded = { coded_list (coded× coded_seen coded_seen) };
 
-    ghost use Rattle.sw_tree.specs.Cells.{forest, Formed};
-    ghost use Rattle.sw_tree.specs.Held.{IsHeld};
+    ghost use Rattle.sw_tree.specs.Inner.Cells.{forest, Formed};
+    ghost use Rattle.sw_tree.specs.Inner.Held.{IsHeld};
 
     ghost view = { λ a. entry_row a.counts (place_in a.counts a.fixed a.at) (turns (take (a.left + a.left) (forest (sheet_store a.input.now a.sheet.now) (drop a.at a.sheet.now.cells.items)))) };
 
@@ -378,7 +381,7 @@ impl<'a> Model for Entries<'a> {
 
 impl<'a> Iterator for Entries<'a> {
     ghost use Rattle.std.specs.Iterator.{YieldsFirstBy, item_count};
-    ghost use Rattle.sw_tree.specs.View.{seen};
+    ghost use Rattle.sw_tree.specs.Inner.View.{seen};
 
     type Item = (View<'a>, View<'a>);
 

@@ -23,7 +23,9 @@ impl Model for Whole {
 
     ghost coded = { coded_ℤ };
 
-    ghost use Rattle.sw_tree.specs.Whole.{number, fields, IsWhole, fields-number};
+    ghost use Rattle.sw_tree.specs.Laws.Whole.{number, fields-number};
+    ghost use Rattle.sw_tree.specs.Whole.{fields};
+    ghost use Rattle.sw_tree.specs.Inner.Whole.{IsWhole};
 
     ghost view = { number };
 
@@ -37,8 +39,9 @@ impl Model for Whole {
 impl Whole {
     ghost use Rattle.std.specs.Prelude.{◌≡◌, pos, None};
     ghost use Rattle.std.specs.Fmt.{signed_decimal};
-    ghost use Rattle.sw_tree.specs.NumberLaws.{IsInRange};
-    ghost use Rattle.sw_tree.specs.Whole.{number_of, IsWithin, natural_of, signed_of};
+    ghost use Rattle.sw_tree.specs.Number.{IsInRange};
+    ghost use Rattle.sw_tree.specs.Inner.Whole.{number_of, IsWithin};
+    ghost use Rattle.sw_tree.specs.Whole.{natural_of, signed_of};
 
     /// The number of these bits, which are 2^127 more where it is negative.
     fn from_bits(upper: bool, bits: u128) -> Whole
@@ -225,7 +228,8 @@ impl Meant for Whole {
 impl Ranked for Whole {
     ghost use Rattle.std.specs.Prelude.{refl};
     ghost use Rattle.sw_tree.specs.Meant.{IsWholeNumber};
-    ghost use Rattle.sw_tree.specs.LeafRanks.{number_order, number_ranks};
+    ghost use Rattle.sw_tree.specs.LeafRanks.{number_order};
+    ghost use Rattle.sw_tree.specs.Laws.LeafRanks.{number_ranks};
 
     ghost order = { number_order };
 
@@ -236,8 +240,8 @@ impl Ranked for Whole {
 
 impl Keyed for Whole {
     ghost use Rattle.sw_tree.specs.Meant.{IsWholeNumber};
-    ghost use Rattle.sw_tree.specs.LeafRanks.{whole_apart};
-    ghost use Rattle.sw_tree.specs.LeafSame.{numbers_same, numbers_alike};
+    ghost use Rattle.sw_tree.specs.Laws.LeafRanks.{whole_apart};
+    ghost use Rattle.sw_tree.specs.Laws.LeafSame.{numbers_same, numbers_alike};
 
     ghost apart = { whole_apart };
 

@@ -3,8 +3,8 @@
 
 ghost use Rattle.std.specs.Prelude.{◌≡◌, ◌≤◌, Ok};
 ghost use Rattle.sw_tree.specs.Tree.{list, map, trees, entries, depth};
-ghost use Rattle.sw_tree.specs.Seen.{trees_of, pairs_of};
-ghost use Rattle.sw_tree.specs.View.{tree_of};
+ghost use Rattle.sw_tree.specs.Inner.Seen.{trees_of, pairs_of};
+ghost use Rattle.sw_tree.specs.Inner.View.{tree_of};
 ghost use Rattle.sw_tree.specs.Building.{IsPut};
 
 use crate::builds::Builds;

@@ -2,7 +2,7 @@
 use Rattle.std.specs.Prelude.{◌≡◌, ℕ, zero, suc}
 use Rattle.std.proofs.Common.{refl, ap, sym, ◌∙◌}
 use base.Stored.{Gv, gnil, gnum, gcons, num, Coded}
-use Rattle.sw_tree.specs.KindsCode.{first, rest, truth_code, truth_at, truth_back, kinds_code, kinds_at, kinds_back}
+use Rattle.sw_tree.specs.Inner.KindsCode.{first, rest, truth_code, truth_at, truth_back, kinds_code, kinds_at, kinds_back}
 use Rattle.sw_check.specs.declared.facts.Claims.{Claims}
 use Rattle.sw_check.specs.declared.facts.Facts.{Facts}
 use Rattle.sw_check.specs.declared.class.TextClass.{TextClass}

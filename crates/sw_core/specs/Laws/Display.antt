@@ -8,10 +8,10 @@ use Rattle.sw_check.specs.declared.class.TextClass.{TextClass}
 use Rattle.sw_elem.specs.Equations.{LawfulReading, own_spot, no_skips}
 use Rattle.sw_elem.specs.Facts.{text_facts}
 use Rattle.sw_elem.specs.Lawful.{Lawful, same_norm}
-use Rattle.sw_elem.specs.Leaf.{leaf_lawful}
+use Rattle.sw_elem.specs.Laws.Leaf.{leaf_lawful}
 use Rattle.sw_elem.specs.Text.{LawfulText}
-use Rattle.sw_elem.specs.TextLaws.{texted_lawful}
-use Rattle.sw_elem.specs.TextLeaf.{texted_keeps}
+use Rattle.sw_elem.specs.Laws.Text.{texted_lawful}
+use Rattle.sw_elem.specs.Laws.TextLeaf.{texted_keeps}
 use Rattle.sw_core.specs.Display.{display_writes, display_reads}
 
 module _ {P : Meaning → Type 0} {shows : Meaning → List ℕ} {parses : List ℕ → Option Meaning} {class : TextClass} (law : LawfulText P shows parses class) where

@@ -1,7 +1,8 @@
 -- What parts that are written one after another keep, from what each part keeps.
 use Rattle.std.specs.Prelude.{◌≡◌, List, [], ◌∷◌, map as list_map, Option, Some, None, Result, Ok, Err}
 use Rattle.std.proofs.Common.{refl, ap, sym, subst, ◌∙◌}
-use Rattle.sw_tree.specs.Steps.{bind, bind_ok, traverse, option_cons, option_traverse, Each}
+use Rattle.sw_tree.specs.Steps.{bind, traverse, Each}
+use Rattle.sw_tree.specs.Laws.Steps.{bind_ok, option_cons, option_traverse}
 
 traverse-cons : {A B E : Type 0} (f : A → Result B E) (x : A) (xs : List A) (zs : List B) → traverse f (x ∷ xs) ≡ Ok zs
     → (y : B) × (ys : List B) × (f x ≡ Ok y) × (traverse f xs ≡ Ok ys) × (zs ≡ y ∷ ys)

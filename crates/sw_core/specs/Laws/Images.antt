@@ -2,7 +2,7 @@
 use Rattle.std.specs.Prelude.{◌≡◌, List, [], ◌∷◌, false, Option, Some, None, option_map}
 use Rattle.std.proofs.Common.{refl, ap, sym, ◌∙◌}
 use Rattle.sw_tree.specs.Image.{image, key_image, value_image, trees_image, next_tree, entries_image, next_entry}
-use Rattle.sw_tree.specs.Steps.{option_cons, option_traverse, option_traverse-Some}
+use Rattle.sw_tree.specs.Laws.Steps.{option_cons, option_traverse, option_traverse-Some}
 use Rattle.sw_tree.specs.Tree.{Tree, list, trees, map, entries}
 use Rattle.sw_tree.specs.declared.mode.WireKind.{WireKind}
 use Rattle.sw_tree.specs.declared.mode.WireKind.TheVariants.{Json, Compact}

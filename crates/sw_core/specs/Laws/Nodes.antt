@@ -3,7 +3,7 @@ use Rattle.std.specs.Prelude.{◌≡◌, List, [], ◌∷◌}
 use Rattle.std.proofs.Common.{refl, ap}
 use Rattle.sw_tree.specs.Laws.Nodes.{all_kinds, items-kinds, pairs-kinds, on, IsStable}
 use Rattle.sw_tree.specs.Nodes.{kinds}
-use Rattle.sw_tree.specs.NodeTrees.{AreNodeTrees, items-are_nodes, pairs-are_nodes}
+use Rattle.sw_tree.specs.Laws.NodeTrees.{AreNodeTrees, items-are_nodes, pairs-are_nodes}
 use Rattle.sw_tree.specs.Placed.{Note, moved}
 use Rattle.sw_tree.specs.Proper.{IsNodeTree}
 use Rattle.sw_tree.specs.Steps.{Each}

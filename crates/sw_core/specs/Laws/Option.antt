@@ -7,7 +7,8 @@ use Rattle.sw_tree.specs.Meaning.{Meaning, nothing, case}
 use Rattle.sw_tree.specs.Meant.{IsOptionOf}
 use Rattle.sw_tree.specs.Nodes.{kinds, IsNoteIn, HasKind}
 use Rattle.sw_tree.specs.Proper.{IsNodeTree}
-use Rattle.sw_tree.specs.Steps.{bind, bind_ok, Each}
+use Rattle.sw_tree.specs.Steps.{bind, Each}
+use Rattle.sw_tree.specs.Laws.Steps.{bind_ok}
 use Rattle.sw_tree.specs.Tree.{Tree, null, truth, int, text, bytes, list, map, kind_of}
 use Rattle.sw_tree.specs.declared.mode.Kind.TheVariants as kind
 use Rattle.sw_tree.specs.declared.mode.Mode.{Mode}

@@ -2,14 +2,16 @@
 use Rattle.std.specs.Prelude.{◌≡◌, List, [], ◌∷◌, map as list_map, true, Result, Ok, Err}
 use Rattle.std.proofs.Common.{refl, ap, subst, ◌∙◌}
 use Rattle.std.specs.declared.cmp.Ordering.TheVariants.{Less}
-use Rattle.sw_tree.specs.Meaning.{Meaning, list, meaning, no_meanings, meanings, parts, parts-meanings, meanings-parts}
+use Rattle.sw_tree.specs.Meaning.{Meaning, list, meaning, no_meanings, meanings, parts}
+use Rattle.sw_tree.specs.Laws.Meaning.{parts-meanings, meanings-parts}
 use Rattle.sw_tree.specs.Meant.{IsListOf, IsPairOf, pair}
 use Rattle.sw_tree.specs.Mode.{at_key, at_value}
 use Rattle.sw_tree.specs.PairRanks.{first}
 use Rattle.sw_tree.specs.Ranks.{Order, Ranks}
 use Rattle.sw_tree.specs.Sorted.{Ascends, IsSetOf, IsMapOf, by_first, Join, sorted, value_replaced}
-use Rattle.sw_tree.specs.SortedLaws.{Joins, by_first-ranks, value_joins, sorted-each, sorted-ascends, sorted-same}
-use Rattle.sw_tree.specs.Steps.{bind, bind_ok, Each}
+use Rattle.sw_tree.specs.Laws.Sorted.{Joins, by_first-ranks, value_joins, sorted-each, sorted-ascends, sorted-same}
+use Rattle.sw_tree.specs.Steps.{bind, Each}
+use Rattle.sw_tree.specs.Laws.Steps.{bind_ok}
 use Rattle.sw_tree.specs.declared.mode.Kind.{Kind}
 use Rattle.sw_tree.specs.declared.mode.Mode.{Mode}
 use Rattle.sw_tree.specs.declared.fail.DeError.{DeError}

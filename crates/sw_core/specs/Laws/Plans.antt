@@ -2,10 +2,12 @@
 use Rattle.std.specs.Prelude.{◌≡◌, ◌+◌, List, Result, Ok, Err}
 use Rattle.std.proofs.Common.{refl, subst, arith}
 use Rattle.sw_tree.specs.Meaning.{Meaning}
-use Rattle.sw_tree.specs.Nodes.{kinds, kinds-size, IsNoteIn}
+use Rattle.sw_tree.specs.Nodes.{kinds, IsNoteIn}
+use Rattle.sw_tree.specs.Laws.Nodes.{kinds-size}
 use Rattle.sw_tree.specs.Placed.{Note, spot_next}
 use Rattle.sw_tree.specs.Proper.{IsNodeTree}
-use Rattle.sw_tree.specs.Steps.{bind, bind_ok, Each}
+use Rattle.sw_tree.specs.Steps.{bind, Each}
+use Rattle.sw_tree.specs.Laws.Steps.{bind_ok}
 use Rattle.sw_tree.specs.Tree.{Tree}
 use Rattle.sw_tree.specs.declared.mode.Kind.{Kind}
 use Rattle.sw_tree.specs.declared.mode.Mode.{Mode}

@@ -3,7 +3,8 @@ use Rattle.std.specs.Prelude.{◌≡◌, ◌+◌, List, [], ◌∷◌, ◌++◌,
 use Rattle.std.proofs.Common.{refl, subst, arith}
 use Rattle.sw_tree.specs.Laws.Each.{each_append, each_cond}
 use Rattle.sw_tree.specs.Meaning.{Meaning}
-use Rattle.sw_tree.specs.Nodes.{kinds, kinds-size, IsNoteIn}
+use Rattle.sw_tree.specs.Nodes.{kinds, IsNoteIn}
+use Rattle.sw_tree.specs.Laws.Nodes.{kinds-size}
 use Rattle.sw_tree.specs.Placed.{Note, moved, spot_next}
 use Rattle.sw_tree.specs.Proper.{IsNodeTree}
 use Rattle.sw_tree.specs.Steps.{bind, Each}

@@ -1,11 +1,12 @@
 -- The laws of a set, from those of the list of its items.
 use Rattle.std.specs.Prelude.{◌≡◌, map as list_map}
 use Rattle.std.proofs.Common.{refl, ap, ◌∙◌}
-use Rattle.sw_tree.specs.Meaning.{Meaning, list, meanings, parts, meanings-parts}
+use Rattle.sw_tree.specs.Meaning.{Meaning, list, meanings, parts}
+use Rattle.sw_tree.specs.Laws.Meaning.{meanings-parts}
 use Rattle.sw_tree.specs.Mode.{at_value}
 use Rattle.sw_tree.specs.Ranks.{Order, Ranks}
 use Rattle.sw_tree.specs.Sorted.{IsSetOf, sorted, old_stays}
-use Rattle.sw_tree.specs.SortedLaws.{old_joins, sorted-same}
+use Rattle.sw_tree.specs.Laws.Sorted.{old_joins, sorted-same}
 use Rattle.sw_tree.specs.declared.mode.Mode.{Mode}
 use Rattle.sw_check.specs.Blame.{IsSound}
 use Rattle.sw_check.specs.Form.{Form, vec, set}

@@ -4,14 +4,17 @@ use Rattle.std.proofs.Common.{refl, ap, sym, subst, ◌∙◌}
 use Rattle.sw_tree.specs.Building.{within}
 use Rattle.sw_tree.specs.Image.{image}
 use Rattle.sw_tree.specs.Kinds.{is_kind}
-use Rattle.sw_tree.specs.Meaning.{Meaning, list, meanings, parts, parts-meanings, meanings-parts}
+use Rattle.sw_tree.specs.Meaning.{Meaning, list, meanings, parts}
+use Rattle.sw_tree.specs.Laws.Meaning.{parts-meanings, meanings-parts}
 use Rattle.sw_tree.specs.Meant.{IsListOf}
 use Rattle.sw_tree.specs.Mode.{at_value, marked}
-use Rattle.sw_tree.specs.NodeTrees.{list-is_node}
+use Rattle.sw_tree.specs.Laws.NodeTrees.{list-is_node}
 use Rattle.sw_tree.specs.Nodes.{IsNoteIn}
 use Rattle.sw_tree.specs.Proper.{IsNodeTree}
-use Rattle.sw_tree.specs.Steps.{bind, traverse, option_traverse, Each}
-use Rattle.sw_tree.specs.Tree.{Tree, trees, items, items-trees, depth, kind_of}
+use Rattle.sw_tree.specs.Steps.{bind, traverse, Each}
+use Rattle.sw_tree.specs.Laws.Steps.{option_traverse}
+use Rattle.sw_tree.specs.Tree.{Tree, trees, items, depth, kind_of}
+use Rattle.sw_tree.specs.Laws.Tree.{items-trees}
 use Rattle.sw_tree.specs.Tree as node
 use Rattle.sw_tree.specs.declared.mode.Kind.TheVariants as kind
 use Rattle.sw_tree.specs.declared.mode.Mode.{Mode}

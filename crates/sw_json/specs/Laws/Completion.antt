@@ -1,25 +1,24 @@
 -- What bytes complete a state to, and that it is what the grammar says.
-use Rattle.std.proofs.Common.{◌≡◌, ◌≤◌, ◌<◌, ℕ, zero, suc, ◌+◌, ◌-◌, List, [], ◌∷◌, length, length-append, Option, Some, None, Bool, true, false, refl, ap, sym, subst, ◌∙◌, arith, cond, inl, inr}
-use Rattle.std.specs.Prelude.{option_and_then, option_map, Ok, Err}
-use Rattle.sw_json.specs.Laws.Numbers.{empty_is}
-use Rattle.sw_tree.specs.Laws.Options.{some_is, none_some, bind_some, map_some}
+use Rattle.std.specs.Prelude.{option_map, option_and_then, Err, Ok}
+use Rattle.std.proofs.Common.{◌≡◌, ℕ, List, [], ◌∷◌, true, refl, Some, false, ◌<◌, ◌-◌, length, length-append, ap, arith, zero, suc, ◌≤◌, ◌∙◌, None, Bool, subst, cond, ◌+◌, sym, Option, inl, inr}
 use Rattle.sw_tree.specs.Tree.{Tree}
 use Rattle.sw_tree.specs.Raw as shape
 use Rattle.sw_tree.specs.Faults as fault
-use Rattle.sw_tree.specs.Wires.{SpellsTree, IsCause, IsRefused, IsDecided, IsGrammar}
-use Rattle.sw_tree.specs.WireLaws as wires
-use Rattle.sw_tree.specs.declared.fail.WireError.{WireError}
+use Rattle.sw_tree.specs.Wires.{IsDecided, IsGrammar, SpellsTree}
 use Rattle.sw_tree.specs.declared.fail.WireError.TheVariants as wire
+use Rattle.sw_tree.specs.Laws.Options.{some_is, none_some, bind_some, map_some}
+use Rattle.sw_tree.specs.Laws.Wires as wires
 use Rattle.sw_json.specs.Token.{Token}
 use Rattle.sw_json.specs.Raw.{Raw, tokens}
 use Rattle.sw_json.specs.Bytes.{front, is_blank}
 use Rattle.sw_json.specs.Grammar.{skip, Lexes, Spells}
 use Rattle.sw_json.specs.Lexing.{is_empty, lexeme, next_token, lex}
-use Rattle.sw_json.specs.Machine.{State, value, step, root, run}
+use Rattle.sw_json.specs.Machine.{value, run}
 use Rattle.sw_json.specs.Shape.{shape_of}
-use Rattle.sw_json.specs.Spelled.{spells, completed, raw_of, judged, spelled}
+use Rattle.sw_json.specs.Spelled.{raw_of, spells, spelled, judged}
+use Rattle.sw_json.specs.Laws.Numbers.{empty_is}
 use Rattle.sw_json.specs.Laws.Fronts.{split}
-use Rattle.sw_json.specs.Laws.Lexemes.{found, taken, front_shorter}
+use Rattle.sw_json.specs.Laws.Lexemes.{taken, front_shorter, found}
 use Rattle.sw_json.specs.Laws.Structure.{reads_tree, tree_read}
 
 is_empty-nil : (bytes : List ℕ) → bytes ≡ [] → is_empty bytes ≡ true
@@ -27,7 +26,6 @@ is_empty-nil [] h = refl
 is_empty-nil (b ∷ bs) h = cc
 
 -- ---- one token
-
 full : (at : ℕ) (bytes : List ℕ) (y : Token × List ℕ) → lexeme at bytes ≡ Some y → is_empty bytes ≡ false
 unfolding lexeme
 full at [] y h = cc
@@ -38,17 +36,12 @@ shorter end bytes y h =
     omega (arith, front_shorter (end - length (skip bytes)) (skip bytes) y.0 y.1 (taken (end - length (skip bytes)) (skip bytes) y h), ap length (split is_blank bytes), length-append (front is_blank bytes) (skip bytes))
 
 -- ---- the lexer and the grammar
-
-lexed_end : (n end : ℕ) (bytes : List ℕ) → skip bytes ≡ [] → lex n end bytes ≡ Some []
+pub lexed_end : (n end : ℕ) (bytes : List ℕ) → skip bytes ≡ [] → lex n end bytes ≡ Some []
 lexed_end zero end bytes h = rw (is_empty-nil (skip bytes) h) refl
 lexed_end (suc n) end bytes h = rw (is_empty-nil (skip bytes) h) refl
 
-lexed_more : (n end : ℕ) (bytes : List ℕ) (y : Token × List ℕ) → next_token end bytes ≡ Some y → lex (suc n) end bytes ≡ option_map (λ ts. y.0 ∷ ts) (lex n end y.1)
+pub lexed_more : (n end : ℕ) (bytes : List ℕ) (y : Token × List ℕ) → next_token end bytes ≡ Some y → lex (suc n) end bytes ≡ option_map (λ ts. y.0 ∷ ts) (lex n end y.1)
 lexed_more n end bytes y h = rw (full (end - length (skip bytes)) (skip bytes) y h, h) refl
-
-unlexed : (n end : ℕ) (bytes : List ℕ) → next_token end bytes ≡ None → is_empty (skip bytes) ≡ false → lex n end bytes ≡ None
-unlexed zero end bytes h e = rw e refl
-unlexed (suc n) end bytes h e = rw (e, h) refl
 
 no_room : (end : ℕ) (bytes : List ℕ) (y : Token × List ℕ) (n : ℕ) → next_token end bytes ≡ Some y → length bytes ≤ n → n ≡ 0 → ⊥
 no_room end bytes y n h k z = absurd (omega (arith, shorter end bytes y h))
@@ -78,7 +71,6 @@ lexed_lexes zero end bytes ts h = chosen_end (is_empty (skip bytes)) bytes end t
 lexed_lexes (suc n) end bytes ts h = lexed_step n end bytes ts (λ rest us k. lexed_lexes n end rest us k) (is_empty (skip bytes)) refl h
 
 -- ---- the bytes and the raw tree
-
 pub raw_found : (off : ℕ) (bytes : List ℕ) (r : Raw) → Spells off bytes r → raw_of off bytes ≡ Some r
 unfolding raw_of
 raw_found off bytes r h =
@@ -95,7 +87,6 @@ pub unique : (off : ℕ) (bytes : List ℕ) (r s : Raw) → Spells off bytes r �
 unique off bytes r s h k = some_is (sym (raw_found off bytes r h) ∙ raw_found off bytes s k)
 
 -- ---- the grammar, as every wire states it
-
 one_shape : (bytes : List ℕ) (r s : shape.Raw) → spells bytes r → spells bytes s → r ≡ s
 one_shape bytes r s h k = sym h.shape_is ∙ ap shape_of (unique 0 bytes h.raw k.raw h.spelled k.spelled) ∙ k.shape_is
 
@@ -121,45 +112,5 @@ decided bytes = decided_by bytes (raw_of 0 bytes) refl
 pub grammar : IsGrammar spells spelled
 grammar = record { one = one_shape; decided = decided; found = judged_shape; none = syntax_found }
 
--- ---- the bytes and what they are read as
-
-pub tree_spelled : (bytes : List ℕ) (t : Tree) → spelled bytes ≡ Ok t → SpellsTree spells bytes t
-tree_spelled bytes t h = wires.tree_spelled spells spelled grammar bytes t h
-
 pub tree_found : (bytes : List ℕ) (t : Tree) → SpellsTree spells bytes t → spelled bytes ≡ Ok t
 tree_found bytes t s = wires.tree_found spells spelled grammar bytes t s
-
-pub err_spelled : (bytes : List ℕ) (e : WireError) → spelled bytes ≡ Err e → IsCause spells bytes e
-err_spelled bytes e h = wires.cause_spelled spells spelled grammar bytes e h
-
-pub err_found : (bytes : List ℕ) (e : WireError) → IsCause spells bytes e → spelled bytes ≡ Err e
-err_found bytes e h = wires.cause_found spells spelled grammar bytes e h
-
-pub refused_by : (bytes : List ℕ) (e : WireError) → spelled bytes ≡ Err e → IsRefused spells bytes e
-refused_by bytes e h = wires.refused_spelled spells spelled grammar bytes e h
-
--- ---- for the reader: one token more, and the three ends
-
-pub at_start : (bytes : List ℕ) → raw_of 0 bytes ≡ completed (length bytes) (0 + length bytes) (value []) bytes
-unfolding raw_of
-at_start bytes = refl
-
-bind_map : (s : State) (t : Token) (o : Option (List Token)) (next : State) → step s t ≡ Some next → option_and_then (run s) (option_map (λ ts. t ∷ ts) o) ≡ option_and_then (run next) o
-bind_map s t None next h = refl
-bind_map s t (Some ts) next h = ap (option_and_then (λ n. run n ts)) h
-
-bind_none : (s : State) (t : Token) (o : Option (List Token)) → step s t ≡ None → option_and_then (run s) (option_map (λ ts. t ∷ ts) o) ≡ None
-bind_none s t None h = refl
-bind_none s t (Some ts) h = ap (option_and_then (λ n. run n ts)) h
-
-pub one_more : (n end : ℕ) (s next : State) (bytes : List ℕ) (y : Token × List ℕ) → next_token end bytes ≡ Some y → step s y.0 ≡ Some next → completed (suc n) end s bytes ≡ completed n end next y.1
-one_more n end s next bytes y h e = ap (option_and_then (run s)) (lexed_more n end bytes y h) ∙ bind_map s y.0 (lex n end y.1) next e
-
-pub refused : (n end : ℕ) (s : State) (bytes : List ℕ) (y : Token × List ℕ) → next_token end bytes ≡ Some y → step s y.0 ≡ None → completed (suc n) end s bytes ≡ None
-refused n end s bytes y h e = ap (option_and_then (run s)) (lexed_more n end bytes y h) ∙ bind_none s y.0 (lex n end y.1) e
-
-pub stuck : (n end : ℕ) (s : State) (bytes : List ℕ) → next_token end bytes ≡ None → is_empty (skip bytes) ≡ false → completed n end s bytes ≡ None
-stuck n end s bytes h e = ap (option_and_then (run s)) (unlexed n end bytes h e)
-
-pub ended : (n end : ℕ) (s : State) (bytes : List ℕ) → skip bytes ≡ [] → completed n end s bytes ≡ root s
-ended n end s bytes h = ap (option_and_then (run s)) (lexed_end n end bytes h)

@@ -1,7 +1,7 @@
 -- The longest front of bytes that pass.
-use Rattle.std.proofs.Common.{◌≡◌, ℕ, List, [], ◌∷◌, ◌++◌, Bool, true, false, cond, refl, ap}
 use Rattle.std.specs.Prelude.{◌&&◌}
 use Rattle.std.specs.List.{list_all}
+use Rattle.std.proofs.Common.{◌≡◌, Bool, true, false, refl, ℕ, List, [], ◌∷◌, ◌++◌, cond, ap}
 use Rattle.sw_json.specs.Bytes.{front, behind, Stops}
 
 pub and_left : (a b : Bool) → (a && b) ≡ true → a ≡ true

@@ -1,16 +1,16 @@
 -- What is found at the front of the bytes is the token there, and the only one.
-use Rattle.std.proofs.Common.{◌≡◌, ◌≢◌, Bor, ℕ, ◌<◌, List, [], ◌∷◌, ◌++◌, length, length-append, Option, Some, None, true, false, eqb, refl, ap, sym, subst, ◌∙◌, inl, inr, arith}
-use Rattle.std.proofs.lemmas.Bool.Decides.{nat_tests}
-use Rattle.std.specs.Prelude.{option_map, MatchOption, codes}
+use Rattle.std.specs.Prelude.{codes}
 use Rattle.std.specs.List.{list_all}
+use Rattle.std.proofs.Common.{◌≡◌, ℕ, false, eqb, true, arith, List, [], ◌∷◌, ◌++◌, Some, None, inl, inr, subst, refl, ap, ◌<◌, length, length-append}
+use Rattle.std.proofs.lemmas.Bool.Decides.{nat_tests}
 use Rattle.sw_tree.specs.Laws.Options.{some_is, map_some}
 use Rattle.sw_json.specs.Token.{Token}
-use Rattle.sw_json.specs.Bytes.{front, behind, behind_word, Stops, is_digit, is_number_byte}
+use Rattle.sw_json.specs.Bytes.{is_digit, is_number_byte, behind_word, Stops, front, behind}
 use Rattle.sw_json.specs.Quoted.{IsQuoted, quoted}
-use Rattle.sw_json.specs.Grammar.{IsNumber, Front}
-use Rattle.sw_json.specs.Lexing.{is_number, number_token, text_token, word_token, literal_or_number, lexeme}
-use Rattle.sw_json.specs.Laws.Fronts.{split, front_is, behind_is, behind_stops, and_left}
-use Rattle.sw_json.specs.Laws.Numbers.{chosen, is_eq, number_passes, is_number-IsNumber, number_bytes, number_length}
+use Rattle.sw_json.specs.Grammar.{Front, IsNumber}
+use Rattle.sw_json.specs.Lexing.{word_token, lexeme, text_token, is_number, number_token, literal_or_number}
+use Rattle.sw_json.specs.Laws.Fronts.{front_is, behind_is, and_left, split, behind_stops}
+use Rattle.sw_json.specs.Laws.Numbers.{chosen, is_eq, number_passes, number_bytes, number_length, is_number-IsNumber}
 use Rattle.sw_json.specs.Laws.Quoting.{quoted_found, quoted_taken}
 
 -- the byte begins a literal or a number, if any token
@@ -47,15 +47,6 @@ number_byte b h = record {
   f = grind (arith, nat_tests);
 }
 
--- ---- words
-
-same : (c : ℕ) → eqb c c ≡ true
-same c = grind (arith, nat_tests)
-
-pub word_found : (w rest : List ℕ) → behind_word w (w ++ rest) ≡ Some rest
-word_found [] rest = refl
-word_found (c ∷ w) rest = rw (same c) (word_found w rest)
-
 pub word_is : (w bytes rest : List ℕ) → behind_word w bytes ≡ Some rest → bytes ≡ w ++ rest
 word_is [] bytes rest h = some_is h
 word_is (c ∷ w) [] rest h = cc
@@ -64,22 +55,12 @@ word_is (c ∷ w) (b ∷ bs) rest h = elim (chosen (eqb b c) (behind_word w bs) 
   | inr m ↦ cc m.1
 ]
 
--- where no word stands in front, none is found there
-no_word : (w bytes : List ℕ) (o : Option (List ℕ)) → behind_word w bytes ≡ o → ((rest : List ℕ) → bytes ≢ w ++ rest) → o ≡ None
-no_word w bytes None e h = refl
-no_word w bytes (Some rest) e h = absurd (h rest (word_is w bytes rest e))
-
-pub word_read : (w bytes : List ℕ) (r : Option (Bor (List ℕ))) → MatchOption r ((rest : List ℕ) → bytes ≢ w ++ rest) (λ x. bytes ≡ w ++ x.now) → option_map (λ (x : Bor (List ℕ)). x.now) r ≡ behind_word w bytes
-word_read w bytes None h = sym (no_word w bytes (behind_word w bytes) refl h)
-word_read w bytes (Some x) h = sym (ap (behind_word w) h ∙ word_found w x.now)
-
 word_taken : (off : ℕ) (w bytes : List ℕ) (t : Token) (y : Token × List ℕ) → word_token w t bytes ≡ Some y → ((rest : List ℕ) → bytes ≡ w ++ rest → Front off bytes t rest) → Front off bytes y.0 y.1
 word_taken off w bytes t y h f =
     let m = map_some (λ (rest : List ℕ). (t, rest)) (behind_word w bytes) y h in
     subst (λ (z : Token × List ℕ). Front off bytes z.0 z.1) m.2 (f m.0 (word_is w bytes m.0 m.1))
 
 -- ---- from the grammar to the lexer
-
 number_lexeme : (at : ℕ) (s rest : List ℕ) → IsNumber s → Stops is_number_byte rest → lexeme at (s ++ rest) ≡ Some (Token.number at s, rest)
 unfolding lexeme
 number_lexeme at [] rest h k = absurd (omega (arith, number_length [] h))
@@ -108,7 +89,6 @@ found off bytes Token.comma rest h = rw h refl
 found off bytes Token.colon rest h = rw h refl
 
 -- ---- from the lexer to the grammar
-
 -- one token with no text of its own
 single : (off b c : ℕ) (bs : List ℕ) (u : Token) (y : Token × List ℕ) → eqb b c ≡ true → Some (u, bs) ≡ Some y → Front off (c ∷ bs) u bs → Front off (b ∷ bs) y.0 y.1
 single off b c bs u y q h f = rw (is_eq b c q) (subst (λ (z : Token × List ℕ). Front off (c ∷ bs) z.0 z.1) (some_is h) f)
@@ -164,7 +144,6 @@ taken off (b ∷ bs) y h = elim (chosen (eqb b 91) _ _ _ h) [
 ]
 
 -- ---- a token takes some bytes
-
 pub front_shorter : (off : ℕ) (bytes : List ℕ) (t : Token) (rest : List ℕ) → Front off bytes t rest → length rest < length bytes
 front_shorter off bytes (Token.null at) rest h = omega (arith, ap length h.1)
 front_shorter off bytes (Token.truth at true) rest h = omega (arith, ap length h.1)
@@ -177,11 +156,3 @@ front_shorter off bytes (Token.open_map at) rest h = omega (arith, ap length h.1
 front_shorter off bytes Token.close_map rest h = omega (arith, ap length h)
 front_shorter off bytes Token.comma rest h = omega (arith, ap length h)
 front_shorter off bytes Token.colon rest h = omega (arith, ap length h)
-
-pub text_read : (at : ℕ) (bytes rest : List ℕ) (b : ℕ) → bytes ≡ b ∷ rest → b ≡ 34 → lexeme at bytes ≡ text_token at (quoted rest)
-unfolding lexeme
-text_read at bytes rest b e h = rw (e, h) refl
-
-pub literal_read : (at : ℕ) (bytes rest : List ℕ) (b : ℕ) → bytes ≡ b ∷ rest → IsOther b → lexeme at bytes ≡ literal_or_number at b bytes
-unfolding lexeme
-literal_read at bytes rest b e h = rw e (rw (h.bracket, h.closing_bracket, h.brace, h.closing_brace, h.comma, h.colon, h.quote) refl)

@@ -1,12 +1,12 @@
 -- A number is found by its sign, its digits, and what follows them.
-use Rattle.std.proofs.Common.{◌≡◌, ℕ, ◌<◌, List, [], ◌∷◌, ◌++◌, length, length-append, Bool, true, false, cond, eqb, refl, ap, ◌∙◌, inl, inr, arith}
-use Rattle.std.proofs.lemmas.Bool.Decides.{nat_tests}
-use Rattle.std.specs.Prelude.{◌⊎◌, ◌&&◌, ◌||◌, not, codes}
+use Rattle.std.specs.Prelude.{◌⊎◌, ◌||◌, not, codes, ◌&&◌}
 use Rattle.std.specs.List.{list_all}
-use Rattle.sw_json.specs.Bytes.{front, behind, Stops, is_digit, is_leading, is_number_byte}
-use Rattle.sw_json.specs.Grammar.{IsInt, AreDigits, IsFraction, AreSigned, IsExponent, IsNumber}
-use Rattle.sw_json.specs.Lexing.{is_empty, is_int, are_digits, are_signed, is_exponent, is_tail, is_unsigned, is_number}
-use Rattle.sw_json.specs.Laws.Fronts.{split, front_passes, front_is, behind_is, and_left, and_right, all_append}
+use Rattle.std.proofs.Common.{◌≡◌, Bool, true, false, cond, refl, inl, inr, ℕ, eqb, arith, List, [], ◌∷◌, ◌++◌, ◌∙◌, ap, ◌<◌, length, length-append}
+use Rattle.std.proofs.lemmas.Bool.Decides.{nat_tests}
+use Rattle.sw_json.specs.Bytes.{is_leading, is_digit, is_number_byte, Stops, front, behind}
+use Rattle.sw_json.specs.Grammar.{AreDigits, IsInt, AreSigned, IsExponent, IsFraction, IsNumber}
+use Rattle.sw_json.specs.Lexing.{is_empty, are_digits, is_int, are_signed, is_exponent, is_tail, is_unsigned, is_number}
+use Rattle.sw_json.specs.Laws.Fronts.{and_left, and_right, front_is, behind_is, split, front_passes, all_append}
 
 pub chosen : {A : Type 0} (b : Bool) (x y z : A) → cond b x y ≡ z → ((b ≡ true) × (x ≡ z)) ⊎ ((b ≡ false) × (y ≡ z))
 chosen true x y z h = inl (refl, h)
@@ -24,7 +24,6 @@ empty_is [] h = refl
 empty_is (b ∷ bs) h = cc
 
 -- ---- bytes
-
 pub leading_isnt_minus : (d : ℕ) → is_leading d ≡ true → eqb d 45 ≡ false
 unfolding is_leading
 leading_isnt_minus d h = grind (arith, nat_tests)
@@ -59,7 +58,6 @@ unfolding is_number_byte is_digit
 other_bytes = (refl, refl, refl, refl, refl)
 
 -- ---- digits
-
 digits_all : (s : List ℕ) → AreDigits s → list_all is_digit s ≡ true
 digits_all [] h = absurd h
 digits_all (d ∷ ds) h = rw h.0 h.1
@@ -81,7 +79,6 @@ some_digits [] h k = cc
 some_digits (d ∷ ds) h k = (and_left (is_digit d) (list_all is_digit ds) k, and_right (is_digit d) (list_all is_digit ds) k)
 
 -- ---- the int
-
 pub int_all : (s : List ℕ) → IsInt s → list_all is_digit s ≡ true
 int_all [] h = absurd h
 int_all (d ∷ ds) (inl z) = rw (z.0, z.1, zero_digit) refl
@@ -117,7 +114,6 @@ is_int-IsInt [] h k = cc
 is_int-IsInt (d ∷ ds) h k = int_by d ds (either (is_empty ds) (is_leading d) h) (zero_or_leading d (and_left (is_digit d) (list_all is_digit ds) k)) (and_right (is_digit d) (list_all is_digit ds) k)
 
 -- ---- the exponent
-
 signed_by : (b : ℕ) (bs : List ℕ) → (b ≡ 43) ⊎ (b ≡ 45) → AreDigits bs → are_signed (b ∷ bs) ≡ true
 signed_by b bs (inl e) h = rw e (digits_pass bs h)
 signed_by b bs (inr e) h = rw e (digits_pass bs h)
@@ -168,7 +164,6 @@ exponent_stops [] h = tt
 exponent_stops (b ∷ bs) h = letter_stops b h.0
 
 -- ---- the fraction and the exponent
-
 letter_isnt_point : (b : ℕ) → (b ≡ 101) ⊎ (b ≡ 69) → eqb b 46 ≡ false
 letter_isnt_point b (inl e) = rw e refl
 letter_isnt_point b (inr e) = rw e refl
@@ -189,7 +184,6 @@ tail_stops [] e h k = exponent_stops e k
 tail_stops (b ∷ ds) e h k = rw (h.0) point_isnt_digit
 
 -- ---- the number
-
 unsigned_passes : (i f e : List ℕ) → IsInt i → IsFraction f → IsExponent e → is_unsigned (i ++ (f ++ e)) ≡ true
 unsigned_passes i f e h j k =
     let stops = tail_stops f e j k in
@@ -255,7 +249,6 @@ is_number-IsNumber (b ∷ bs) h = elim (chosen (eqb b 45) (is_unsigned bs) (is_u
 ]
 
 -- ---- a number is made of its bytes
-
 digit_bytes : (s : List ℕ) → list_all is_digit s ≡ true → list_all is_number_byte s ≡ true
 digit_bytes [] h = refl
 digit_bytes (b ∷ bs) h = rw (digit_byte b (and_left (is_digit b) (list_all is_digit bs) h)) (digit_bytes bs (and_right (is_digit b) (list_all is_digit bs) h))

@@ -1,19 +1,19 @@
 -- What a tree is printed as spells it.
-use Rattle.std.proofs.Common.{◌≡◌, ℕ, suc, ◌+◌, ◌-◌, ◌≤◌, ◌<◌, List, [], ◌∷◌, ◌++◌, length, true, false, ltb, refl, ap, sym, subst, ◌∙◌, arith, IsUtf8, codes}
-use Rattle.std.proofs.lemmas.Bool.Decides.{nat_tests}
 use Rattle.std.specs.Prelude.{Ok}
 use Rattle.std.specs.Fmt.{signed_decimal}
 use Rattle.std.specs.List.{list_all}
-use Rattle.sw_tree.specs.Tree.{Tree, null, truth, int, text, bytes, list, map, Trees, no_trees, tree, Entries, no_entries, entry, depth, trees_depth, entries_depth}
-use Rattle.sw_tree.specs.NumberLaws.{key_number-signed_decimal}
-use Rattle.sw_tree.specs.Faults.{int_of, number_fault, level_fault, faults, items_faults, entries_faults, whole, wholes, whole_entries}
+use Rattle.std.proofs.Common.{ℕ, ◌-◌, List, [], ◌∷◌, length, ◌++◌, true, false, codes, ◌≡◌, refl, ap, ◌∙◌, ◌<◌, ltb, arith, suc, ◌+◌, ◌≤◌, sym, subst, IsUtf8}
+use Rattle.std.proofs.lemmas.Bool.Decides.{nat_tests}
+use Rattle.sw_tree.specs.Tree.{text, Tree, null, truth, int, bytes, list, map, Trees, no_trees, tree, Entries, no_entries, entry, depth, trees_depth, entries_depth}
+use Rattle.sw_tree.specs.Faults.{int_of, whole, wholes, whole_entries, level_fault, number_fault, faults, items_faults, entries_faults}
 use Rattle.sw_tree.specs.Wires.{SpellsTree}
 use Rattle.sw_tree.specs.declared.fail.WireError.{WireError}
+use Rattle.sw_tree.specs.Laws.Number.{key_number-signed_decimal}
 use Rattle.sw_json.specs.Token.{Quote, Token}
 use Rattle.sw_json.specs.Raw.{Raw, RawItems, no_items, item, RawEntries, tokens, items_tokens, more_tokens, entries_tokens, more_entries as more_entries_tokens}
 use Rattle.sw_json.specs.Raw as raw
-use Rattle.sw_json.specs.Bytes.{Stops, is_blank, is_digit, is_number_byte}
-use Rattle.sw_json.specs.Grammar.{skip, Front, Lexes, IsNumber}
+use Rattle.sw_json.specs.Bytes.{is_blank, is_digit, is_number_byte, Stops}
+use Rattle.sw_json.specs.Grammar.{skip, IsNumber, Front, Lexes}
 use Rattle.sw_json.specs.Shape.{shape_of, items_shape, entries_shape}
 use Rattle.sw_json.specs.Text.{escaped, text_of, items_text, more_items, entries_text, more_entries}
 use Rattle.sw_json.specs.Images.{IsKey, IsImage, AreImages, AreImageEntries}
@@ -25,7 +25,6 @@ use Rattle.sw_json.specs.Laws.PrintedTexts.{escaped-append, escaped_quoted}
 use Rattle.sw_json.specs.Laws.PrintedNumbers.{decimal_number}
 
 -- ---- the raw tree that a text spells, where what follows is given and the bytes end at this offset
-
 abbrev quote : ℕ → List ℕ → List ℕ → Quote
 quote end s k = record { at = end - length (34 ∷ escaped s (34 ∷ k)); spelling = escaped s []; text = s }
 
@@ -54,7 +53,6 @@ abbrev mutual
   located_entries end (entry key value es) k = raw.entry (name end key (58 ∷ text_of value (more_entries es k))) (located end value (more_entries es k)) (located_entries end es k)
 
 -- ---- it means the tree
-
 name_text : (end : ℕ) (key : Tree) (k : List ℕ) → IsKey key → text (name end key k).text ≡ key
 name_text end null k h = absurd h
 name_text end (truth b) k h = absurd h
@@ -88,7 +86,6 @@ mutual
       ∙ ap (λ x. entry key x rest) (whole_located end value (more_entries es k) h.1) ∙ ap (entry key value) (entries_located end es k h.2)
 
 -- ---- it has no faults
-
 open_is : (d at : ℕ) (fs : List WireError) → d < 128 → level_fault d at fs ≡ fs
 open_is d at fs h = let e : ltb d 128 ≡ true = grind (arith, nat_tests, h) in rw e refl
 
@@ -118,7 +115,6 @@ mutual
       faultless d end value (more_entries es k) (entries_faults d (entries_shape (located_entries end es k)) fs) h.1 (omega (arith, l)) ∙ entries_faultless d end es k fs h.2 (omega (arith, l))
 
 -- ---- what begins no blank
-
 not_blank : (b : ℕ) → is_number_byte b ≡ true → is_blank b ≡ false
 unfolding is_number_byte is_digit is_blank
 not_blank b h = grind (arith, nat_tests)

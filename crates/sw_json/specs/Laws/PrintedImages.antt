@@ -1,20 +1,19 @@
 -- The image of a proper tree is one that its text spells, and is no deeper.
-use Rattle.std.proofs.Common.{◌≡◌, ℕ, suc, ◌≤◌, ◌<◌, max, List, [], ◌∷◌, Option, Some, None, option_map, refl, ap, sym, subst, ◌∙◌, arith, Ok}
-use Rattle.sw_tree.specs.Utf8.{signed_decimal-utf8, bool_text-utf8}
+use Rattle.std.proofs.Common.{◌≡◌, Option, Some, None, refl, ℕ, ◌≤◌, ◌<◌, List, [], ◌∷◌, arith, suc, option_map, max, subst}
 use Rattle.sw_tree.specs.Steps.{Each}
-use Rattle.sw_tree.specs.Tree.{Tree, null, truth, int, text, bytes, list, map, Trees, no_trees, tree, Entries, no_entries, entry, depth, trees_depth, entries_depth}
-use Rattle.sw_tree.specs.Image.{numbers, key_image, next_tree, next_entry, value_image, trees_image, entries_image, image}
+use Rattle.sw_tree.specs.Tree.{Tree, depth, null, truth, int, text, bytes, list, map, Trees, trees_depth, Entries, entries_depth, no_trees, tree, no_entries, entry}
+use Rattle.sw_tree.specs.Image.{key_image, numbers, next_tree, next_entry, value_image, trees_image, entries_image, image}
 use Rattle.sw_tree.specs.declared.mode.WireKind.TheVariants.{Json}
 use Rattle.sw_tree.specs.declared.mode.Place.TheVariants.{Value}
 use Rattle.sw_tree.specs.Proper.{IsProper, AreProper, AreProperEntries}
 use Rattle.sw_tree.specs.Wires.{PrintsImages}
+use Rattle.sw_tree.specs.Laws.Utf8.{signed_decimal-utf8, bool_text-utf8}
 use Rattle.sw_json.specs.Images.{IsKey, IsImage, AreImages, AreImageEntries}
 use Rattle.sw_json.specs.Spelled.{spelled}
-use Rattle.sw_json.specs.Text.{text_of, image_text, json_text}
+use Rattle.sw_json.specs.Text.{image_text}
 use Rattle.sw_json.specs.Laws.Printed.{printed_spelled}
 
 -- ---- keys
-
 abbrev IsKeyIf : Option Tree → Type 0
 IsKeyIf None = Unit {0}
 IsKeyIf (Some i) = IsKey i × (depth i ≡ 0)
@@ -29,9 +28,8 @@ key_is (list ts) h = tt
 key_is (map es) h = tt
 
 -- ---- values
-
 -- an image, where there is one, of no more levels
-abbrev IsValueIf : ℕ → Option Tree → Type 0
+abbrev pub IsValueIf : ℕ → Option Tree → Type 0
 IsValueIf d None = Unit {0}
 IsValueIf d (Some i) = IsImage i × (depth i ≤ d)
 
@@ -92,17 +90,6 @@ mutual
 -- the image of a proper tree is such an image, and no deeper
 pub image_is : (t i : Tree) → IsProper t → image Json Value t ≡ Some i → IsImage i × (depth i ≤ depth t)
 image_is t i h e = subst (IsValueIf (depth t)) e (value_is t h)
-
-printed_of : (t : Tree) (o : Option Tree) (s : List ℕ) → image Json Value t ≡ o → IsProper t → depth t ≤ 128 → option_map (λ i. text_of i []) o ≡ Some s → (i : Tree) × (image Json Value t ≡ Some i) × (spelled s ≡ Ok i)
-printed_of t None s e h l k = cc
-printed_of t (Some i) s e h l k =
-    let m = image_is t i h e in
-    let same : text_of i [] ≡ s = cc in
-    (i, e, ap spelled (sym same) ∙ printed_spelled i m.0 (omega (arith, m.1, l)))
-
--- so what a proper tree is printed as spells its image
-pub printed_image : (t : Tree) (s : List ℕ) → IsProper t → depth t ≤ 128 → json_text t ≡ Some s → (i : Tree) × (image Json Value t ≡ Some i) × (spelled s ≡ Ok i)
-printed_image t s h l k = printed_of t (image Json Value t) s refl h l k
 
 pub prints_images : PrintsImages Json spelled image_text
 prints_images t i h l e =

@@ -1,10 +1,11 @@
 -- What a number is printed as spells it.
-use Rattle.std.proofs.Common.{◌≡◌, ℕ, ℤ, List, [], ◌∷◌, ◌++◌, true, eqb, append-nil, refl, ap, sym, subst, inl, inr}
-use Rattle.std.specs.Prelude.{◌⊎◌, ◌&&◌, codes}
+use Rattle.std.specs.Prelude.{◌&&◌, ◌⊎◌, codes}
 use Rattle.std.specs.Fmt.{signed_decimal}
 use Rattle.std.specs.List.{list_all}
+use Rattle.std.proofs.Common.{◌≡◌, ℕ, List, [], ◌∷◌, true, eqb, inl, inr, ◌++◌, append-nil, ap, sym, refl, subst, ℤ}
+use Rattle.sw_tree.specs.Number.{IsInRange}
 use Rattle.sw_tree.specs.Number as number
-use Rattle.sw_tree.specs.NumberLaws.{IsInRange, signed_decimal_text}
+use Rattle.sw_tree.specs.Laws.Number.{signed_decimal_text}
 use Rattle.sw_json.specs.Bytes.{is_digit, is_leading}
 use Rattle.sw_json.specs.Grammar.{IsInt, IsNumber}
 use Rattle.sw_json.specs.Laws.Fronts.{and_left, and_right}

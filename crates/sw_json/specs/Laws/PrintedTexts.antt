@@ -1,11 +1,11 @@
 -- What a text is printed as spells it.
-use Rattle.std.proofs.Common.{◌≡◌, ℕ, ◌/◌, ◌%◌, ◌<◌, List, [], ◌∷◌, ◌++◌, Bool, true, false, cond, eqb, ltb, refl, ap, sym, ◌∙◌, arith, IsUtf8, encode_utf8, append_assoc}
-use Rattle.std.proofs.lemmas.Bool.Decides.{nat_tests}
-use Rattle.std.proofs.lemmas.Str.{encode_ascii, digit_value-digit_char}
 use Rattle.std.specs.Char.{digit_char, is_digit}
 use Rattle.std.specs.Char.Utf16.{is_high_surrogate, is_low_surrogate}
+use Rattle.std.proofs.Common.{◌≡◌, ℕ, List, [], ◌∷◌, ◌++◌, refl, ap, ◌∙◌, append_assoc, ◌<◌, true, eqb, sym, arith, encode_utf8, ◌/◌, ◌%◌, false, ltb, Bool, cond, IsUtf8}
+use Rattle.std.proofs.lemmas.Bool.Decides.{nat_tests}
+use Rattle.std.proofs.lemmas.Str.{encode_ascii, digit_value-digit_char}
 use Rattle.sw_json.specs.Bytes.{is_plain}
-use Rattle.sw_json.specs.Quoted.{hex, Piece, plain, short, unit, are_hex, code, is_short, short_character, IsPiece, meaning, spelled, spelling_of, ArePieces, meanings, IsQuoted}
+use Rattle.sw_json.specs.Quoted.{Piece, IsPiece, meaning, spelled, short, is_short, short_character, hex, are_hex, code, unit, plain, ArePieces, spelling_of, meanings, IsQuoted}
 use Rattle.sw_json.specs.Text.{escape_of, escaped}
 use Rattle.sw_json.specs.Laws.Numbers.{is_eq}
 

@@ -1,20 +1,18 @@
 -- What is found behind an opening quotation mark is the text there, and the only one.
-use Rattle.std.proofs.Common.{◌≡◌, ℕ, zero, suc, ◌+◌, ◌-◌, ◌≤◌, ◌<◌, List, [], ◌∷◌, ◌++◌, length, take, take_at, length-append, Option, Some, None, Bool, true, false, cond, eqb, refl, ap, sym, subst, ◌∙◌, inl, inr, arith}
-use Rattle.std.proofs.lemmas.Bool.Decides.{nat_tests}
-use Rattle.std.specs.Prelude.{◌⊎◌, ◌&&◌, ◌||◌, option_map, option_and_then}
+use Rattle.std.specs.Prelude.{option_map, option_and_then, ◌&&◌, ◌⊎◌}
 use Rattle.std.specs.Char.{encode_utf8}
-use Rattle.std.specs.Char.Utf16.{is_high_surrogate, is_low_surrogate, surrogate_pair_char}
-use Rattle.std.specs.List.{list_all}
-use Rattle.std.specs.Str.{is_utf8, IsUtf8}
+use Rattle.std.specs.Char.Utf16.{is_low_surrogate, surrogate_pair_char, is_high_surrogate}
+use Rattle.std.specs.Str.{IsUtf8, is_utf8}
+use Rattle.std.proofs.Common.{◌≡◌, ℕ, true, false, eqb, arith, List, Some, refl, ◌∷◌, ap, None, zero, suc, ◌≤◌, [], length, ◌+◌, ◌<◌, ◌++◌, ◌∙◌, ◌-◌, take, take_at, length-append, sym, inl, inr, cond, subst, Option}
+use Rattle.std.proofs.lemmas.Bool.Decides.{nat_tests}
 use Rattle.std.proofs.lemmas.Str.{is_utf8-from_IsUtf8, IsUtf8-from_is_utf8}
-use Rattle.sw_json.specs.Laws.Numbers.{chosen, is_eq}
 use Rattle.sw_tree.specs.Laws.Options.{some_is, none_some, bind_some, map_some}
 use Rattle.sw_json.specs.Bytes.{is_plain}
-use Rattle.sw_json.specs.Quoted.{Hex, hex, Piece, plain, short, unit, pair, is_short, short_character, are_hex, code, IsPiece, meaning, spelled_hex, spelled, spelling_of, ArePieces, meanings, IsQuoted, has_escape, hex_at, if_low, low_at, if_unit, unit_at, escape_at, piece_at, at_quote, quote_or, before, content, with_spelling, quoted}
+use Rattle.sw_json.specs.Quoted.{is_short, Hex, hex, are_hex, code, spelled_hex, hex_at, low_at, unit, IsPiece, unit_at, pair, Piece, plain, short, meaning, spelled, escape_at, piece_at, at_quote, spelling_of, ArePieces, meanings, before, content, IsQuoted, with_spelling, quoted, if_low, if_unit, short_character, quote_or}
+use Rattle.sw_json.specs.Laws.Numbers.{chosen, is_eq}
 use Rattle.sw_json.specs.Laws.Fronts.{and_left, and_right}
 
 -- ---- from the grammar to what is computed
-
 pub plain_byte : (b : ℕ) → is_plain b ≡ true → (eqb b 92 ≡ false) × (eqb b 34 ≡ false)
 unfolding is_plain
 plain_byte b h = (grind (arith, nat_tests), grind (arith, nat_tests))
@@ -59,7 +57,7 @@ content_found (suc n) (p ∷ ps) rest h l =
 hex_length : (h : Hex) (k : List ℕ) → length (spelled_hex h k) ≡ length k + 4
 hex_length (hex a b c d) k = omega arith
 
-spelled_longer : (p : Piece) (k : List ℕ) → length k < length (spelled p k)
+pub spelled_longer : (p : Piece) (k : List ℕ) → length k < length (spelled p k)
 spelled_longer (plain b) k = omega arith
 spelled_longer (short b) k = omega arith
 spelled_longer (unit h) k = omega (arith, hex_length h k)
@@ -102,7 +100,6 @@ quoted_found bytes s t rest q e =
     ap (λ b. option_and_then (with_spelling b) (content (length b) b)) e ∙ ap (option_and_then (with_spelling (s ++ 34 ∷ rest))) (content_of s t rest q) ∙ with_spelling_is s t rest q.is_text
 
 -- ---- from what is computed to the grammar
-
 -- four digits with that code, and what is behind them
 record HexTaken (bytes : List ℕ) (c : ℕ) (k : List ℕ) : Type 0 where
   digits : Hex
@@ -147,11 +144,11 @@ low_taken high (s ∷ u ∷ k) y z = elim (chosen ((eqb s 92) && (eqb u 117)) (o
 low_taken high bs y z = absurd (none_some z)
 
 -- a piece that stands for these bytes, and what is behind it
-record Taken (bytes out k : List ℕ) : Type 0 where
-  piece : Piece
-  lawful : IsPiece piece
-  means : meaning piece ≡ out
-  spells : bytes ≡ spelled piece k
+pub record Taken (bytes out k : List ℕ) : Type 0 where
+  pub piece : Piece
+  pub lawful : IsPiece piece
+  pub means : meaning piece ≡ out
+  pub spells : bytes ≡ spelled piece k
 
 if_unit_taken : (bs : List ℕ) (x y : ℕ × List ℕ) → HexTaken bs x.0 x.1 → if_unit x ≡ Some y → Taken (92 ∷ 117 ∷ bs) (encode_utf8 y.0) y.1
 if_unit_taken bs x y h z = elim (chosen (is_high_surrogate x.0) (low_at x.0 x.1) (cond (is_low_surrogate x.0) None (Some x)) (Some y) z) [
@@ -183,7 +180,7 @@ escape_taken (x ∷ bs) y z = elim (chosen (eqb x 117) (unit_at bs) (cond (is_sh
   ]
 ]
 
-piece_taken : (bs : List ℕ) (y : List ℕ × List ℕ) → piece_at bs ≡ Some y → Taken bs y.0 y.1
+pub piece_taken : (bs : List ℕ) (y : List ℕ × List ℕ) → piece_at bs ≡ Some y → Taken bs y.0 y.1
 unfolding piece_at
 piece_taken [] y z = absurd (none_some z)
 piece_taken (b ∷ bs) y z = elim (chosen (eqb b 92) (option_map (λ x. (encode_utf8 x.0, x.1)) (escape_at bs)) (cond (is_plain b) (Some (b ∷ [], bs)) None) (Some y) z) [
@@ -195,9 +192,6 @@ piece_taken (b ∷ bs) y z = elim (chosen (eqb b 92) (option_map (λ x. (encode_
     | inr n ↦ absurd (none_some n.1)
   ]
 ]
-
-pub piece_shorter : (bs : List ℕ) (y : List ℕ × List ℕ) → piece_at bs ≡ Some y → length y.1 < length bs
-piece_shorter bs y h = let t = piece_taken bs y h in omega (arith, spelled_longer t.piece y.1, ap length t.spells)
 
 quote_taken : (bs rest : List ℕ) → at_quote bs ≡ Some rest → bs ≡ 34 ∷ rest
 quote_taken [] rest z = absurd (none_some z)
@@ -254,26 +248,3 @@ unfolding quoted
 quoted_taken bytes s t rest z =
     let b = bind_some (with_spelling bytes) (content (length bytes) bytes) (s, (t, rest)) z in
     quoted_is bytes b.0 (s, (t, rest)) (content_taken (length bytes) bytes b.0 b.1) b.2
-
--- ---- texts without a backslash
-
-or_right : (a b : Bool) → (a || b) ≡ false → b ≡ false
-or_right true b h = cc
-or_right false b h = h
-
-pieces_plain : (ps : List Piece) → ArePieces ps → has_escape (spelling_of ps []) ≡ false → (meanings ps ≡ spelling_of ps []) × (list_all is_plain (spelling_of ps []) ≡ true)
-pieces_plain [] h e = (refl, refl)
-pieces_plain (plain b ∷ ps) h e =
-    let i = pieces_plain ps h.1 (or_right (eqb b 92) (has_escape (spelling_of ps [])) e) in
-    (ap (λ x. b ∷ x) i.0, rw h.0 i.1)
-pieces_plain (short b ∷ ps) h e = cc
-pieces_plain (unit d ∷ ps) h e = cc
-pieces_plain (pair d l ∷ ps) h e = cc
-
-pub unescaped_plain : (s t : List ℕ) → IsQuoted s t → has_escape s ≡ false → list_all is_plain s ≡ true
-unescaped_plain s t q e = ap (list_all is_plain) q.spells ∙ (pieces_plain q.pieces q.lawful (ap has_escape (sym q.spells) ∙ e)).1
-
-pub plain_has_none : (s : List ℕ) → list_all is_plain s ≡ true → has_escape s ≡ false
-plain_has_none [] h = refl
-plain_has_none (b ∷ bs) h =
-    rw (plain_byte b (and_left (is_plain b) (list_all is_plain bs) h)).0 (plain_has_none bs (and_right (is_plain b) (list_all is_plain bs) h))

@@ -1,10 +1,10 @@
 -- The machine makes a tree of exactly its tokens.
-use Rattle.std.proofs.Common.{◌≡◌, ℕ, List, [], ◌∷◌, Some, refl, ap, sym, ◌∙◌}
+use Rattle.std.proofs.Common.{◌≡◌, refl, ap, ℕ, List, ◌∷◌, ◌∙◌, [], Some, sym}
 use Rattle.sw_tree.specs.Laws.Options.{some_is, none_some, bind_some}
 use Rattle.sw_json.specs.Token.{Quote, Token}
-use Rattle.sw_json.specs.Raw.{Raw, RawItems, no_items, item, RawEntries, no_entries, entry, tokens, items_tokens, more_tokens, entries_tokens, more_entries}
+use Rattle.sw_json.specs.Raw.{RawItems, no_items, item, Raw, RawEntries, no_entries, entry, tokens, items_tokens, more_tokens, entries_tokens, more_entries}
 use Rattle.sw_json.specs.Raw as raw
-use Rattle.sw_json.specs.Machine.{Level, in_list, in_map, State, value, fresh_list, fresh_map, name, colon, after, push, enter, step_value, step_fresh_list, step_fresh_map, step_name, step_colon, step_after, step, root, run}
+use Rattle.sw_json.specs.Machine.{push, enter, Level, in_list, value, fresh_list, run, in_map, fresh_map, after, colon, State, name, step_value, step_fresh_list, step_name, step_fresh_map, step_colon, step_after, step, root}
 
 abbrev append : RawItems → RawItems → RawItems
 append no_items rs = rs

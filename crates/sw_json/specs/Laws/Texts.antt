@@ -1,11 +1,12 @@
 -- The text of a tree in front of a rest, and the texts of lists and maps by their parts.
-use Rattle.std.proofs.Common.{◌≡◌, ℕ, List, [], ◌∷◌, ◌++◌, true, false, refl, ap, sym, ◌∙◌, append_assoc, Option, Some, None, option_map}
 use Rattle.std.specs.Prelude.{codes}
-use Rattle.sw_tree.specs.Tree.{Tree, null, truth, int, text, bytes, list, map, Trees, no_trees, tree, trees, Entries, no_entries, entry, entries}
-use Rattle.sw_tree.specs.Image.{value_image, key_image, trees_image, entries_image, next_tree, next_entry}
-use Rattle.sw_json.specs.Text.{escaped, text_of, items_text, more_items, entries_text, more_entries, json_text}
+use Rattle.std.proofs.Common.{◌≡◌, ℕ, List, ◌++◌, refl, append_assoc, ◌∷◌, true, false, ap, ◌∙◌, [], Option, Some, None, option_map, sym}
+use Rattle.sw_tree.specs.Tree.{Tree, null, truth, int, text, bytes, list, map, Trees, no_trees, tree, Entries, no_entries, entry, trees, entries}
+use Rattle.sw_tree.specs.Image.{next_tree, value_image, trees_image, next_entry, key_image, entries_image}
+use Rattle.sw_json.specs.Text.{text_of, items_text, more_items, entries_text, more_entries, json_text}
+use Rattle.sw_json.specs.Inner.Pushed.{joined}
 use Rattle.sw_json.specs.Laws.PrintedTexts.{escaped-append}
-use Rattle.sw_json.specs.Pushed.{joined, entry_text, more_items_text, more_entries_text}
+use Rattle.sw_json.specs.Laws.Pushed.{more_items_text, entry_text, more_entries_text}
 
 regroup : (a b c : List ℕ) → (a ++ b) ++ c ≡ a ++ (b ++ c)
 regroup a b c = rw append_assoc refl
@@ -82,7 +83,3 @@ behind-joined (Some key) (Some value) (Some es) = ap (λ r. Some (44 ∷ r)) (en
 
 pub behind_text : (e : Tree × Tree) (es : List (Tree × Tree)) → more_entries_text (e ∷ es) ≡ joined (Some (codes ",")) (joined (entry_text e.0 e.1) (more_entries_text es))
 behind_text e es = behind-joined (key_image e.0) (value_image e.1) (entries_image (entries es))
-
--- a text, by what stands between its quotes
-pub quoted_text : (s : List ℕ) → json_text (text s) ≡ joined (Some (codes "\"")) (joined (Some (escaped s [])) (Some (codes "\"")))
-quoted_text s = ap (λ r. Some (34 ∷ r)) (escaped-append s [] (34 ∷ []))

@@ -1,22 +1,23 @@
 -- To open a list, put its parts in and close it is to put the list in, and so it is with a map. What was put into a fresh writer is its text.
-use Rattle.std.proofs.Common.{◌≡◌, ℕ, suc, max, List, [], ◌∷◌, Bool, true, false, cond, Option, Some, None, Result, Ok, Err, refl, ap, sym, ◌∙◌, append_assoc, arith}
-use Rattle.std.specs.Prelude.{codes, nat_le}
+use Rattle.std.specs.Prelude.{nat_le, codes}
+use Rattle.std.proofs.Common.{◌≡◌, ℕ, List, Option, Some, None, refl, append_assoc, [], ap, ◌∙◌, Bool, cond, Result, Ok, Err, true, false, suc, ◌∷◌, max, arith, sym}
 use Rattle.std.proofs.lemmas.List.{append-nil}
-use Rattle.sw_tree.specs.Tree.{Tree, list, map, trees, entries, by_turns, depth, trees_depth, entries_depth}
-use Rattle.sw_tree.specs.Building.{within, puts, with_put}
+use Rattle.sw_tree.specs.Tree.{Tree, depth, trees, trees_depth, list, entries, by_turns, entries_depth, map}
+use Rattle.sw_tree.specs.Building.{with_put, within, puts}
 use Rattle.sw_tree.specs.declared.fail.SerError.{SerError}
 use Rattle.sw_tree.specs.declared.fail.SerError.TheVariants as reason
-use Rattle.sw_json.specs.Text.{json_text, key_text}
-use Rattle.sw_json.specs.Pushed.{joined, entry_text, more_items_text, more_entries_text}
-use Rattle.sw_json.specs.Turns.{separator, piece, opening, ending}
-use Rattle.sw_json.specs.Written.{Written, fresh, put, opened, closed}
+use Rattle.sw_json.specs.Text.{json_text}
 use Rattle.sw_json.specs.declared.level.Level.{Level}
 use Rattle.sw_json.specs.declared.turn.Turn.{Turn}
-use Rattle.sw_json.specs.declared.turn.Turn.TheVariants.{Root, First, Item, FirstKey, Key, Value}
-use Rattle.sw_json.specs.Laws.Texts.{list_text, map_text, more_text, behind_text}
+use Rattle.sw_json.specs.declared.turn.Turn.TheVariants.{Item, Root, First, FirstKey, Key, Value}
+use Rattle.sw_json.specs.Inner.Pushed.{joined}
+use Rattle.sw_json.specs.Inner.Text.{key_text}
+use Rattle.sw_json.specs.Inner.Turns.{separator, piece, ending, opening}
+use Rattle.sw_json.specs.Inner.Written.{Written, put, closed, opened}
+use Rattle.sw_json.specs.Laws.Texts.{more_text, list_text, behind_text, map_text}
+use Rattle.sw_json.specs.Laws.Pushed.{more_items_text, entry_text, more_entries_text}
 
 -- ---- texts one behind another
-
 joined-assoc : (a b c : Option (List ℕ)) → joined (joined a b) c ≡ joined a (joined b c)
 joined-assoc None b c = refl
 joined-assoc (Some a) None c = refl
@@ -27,7 +28,7 @@ joined-nil : (a : Option (List ℕ)) → joined a (Some []) ≡ a
 joined-nil None = refl
 joined-nil (Some a) = ap Some (append-nil a)
 
-nil-joined : (a : Option (List ℕ)) → joined (Some []) a ≡ a
+pub nil-joined : (a : Option (List ℕ)) → joined (Some []) a ≡ a
 nil-joined None = refl
 nil-joined (Some a) = refl
 
@@ -45,7 +46,6 @@ from_first x a o j r e m k =
     ∙ regroup x a o (joined j m)
 
 -- ---- closing
-
 abbrev at : Option (List ℕ) → Turn → ℕ → List Level → Written
 at x t h o = record { text = x; top = record { turn = t; height = h }; outer = o }
 
@@ -62,7 +62,6 @@ closed_with : (w : Written) (x : Option (List ℕ)) (turn : Turn) (h : ℕ) (t :
 closed_with w x turn h t e k = rw (e, k) (by_room (nat_le (depth t) 128) t w)
 
 -- ---- lists
-
 -- further items
 abbrev rest_items : List Tree → Option (List ℕ)
 rest_items [] = Some []
@@ -118,7 +117,6 @@ lists w (t ∷ ts) =
     (from_first w.text a o (json_text t) (rest_items ts) (Some (codes "]")) (more_items_text ts) (rest_items-ended ts) ∙ ap (λ r. joined w.text (joined a r)) (list_shape w.top.turn t ts))
 
 -- ---- maps
-
 -- further entries
 abbrev rest_entries : List (Tree × Tree) → Option (List ℕ)
 rest_entries [] = Some []
@@ -177,8 +175,3 @@ maps w (p ∷ es) =
     ∙ ap closed (puts-entries es x n (w.top ∷ w.outer))
     ∙ closed_with w (joined x (rest_entries es)) Key h (map (entries (p ∷ es))) e
     (from_first w.text a o (entry_text p.0 p.1) (rest_entries es) (Some (codes "}")) (more_entries_text es) (rest_entries-ended es) ∙ ap (λ r. joined w.text (joined a r)) (map_shape w.top.turn p es))
-
--- ---- the whole text
-
-pub fresh_text : (w : Written) (t : Tree) → w ≡ put t fresh → w.text ≡ json_text t
-fresh_text w t e = ap (λ (v : Written). v.text) e ∙ nil-joined (joined (Some []) (json_text t)) ∙ nil-joined (json_text t)

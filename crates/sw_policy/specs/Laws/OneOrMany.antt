@@ -7,7 +7,8 @@ use Rattle.sw_tree.specs.Meaning.{Meaning, list, no_meanings, meaning}
 use Rattle.sw_tree.specs.Meant.{IsListOf}
 use Rattle.sw_tree.specs.Mode.{at_value, marked}
 use Rattle.sw_tree.specs.Proper.{IsNodeTree}
-use Rattle.sw_tree.specs.Steps.{bind, bind_ok}
+use Rattle.sw_tree.specs.Steps.{bind}
+use Rattle.sw_tree.specs.Laws.Steps.{bind_ok}
 use Rattle.sw_tree.specs.Tree.{Tree, Trees, kind_of}
 use Rattle.sw_tree.specs.Tree as node
 use Rattle.sw_tree.specs.declared.mode.Mode.{Mode}

@@ -14,7 +14,8 @@ use Rattle.sw_tree.specs.declared.fail.DeKind.{DeKind}
 use Rattle.sw_check.specs.Form.{Form, pick_first, no_forms, forms}
 use Rattle.sw_check.specs.Kinds.{kinds_read, any_reads}
 use Rattle.sw_check.specs.Laws.Sound.{sound-checked}
-use Rattle.sw_elem.specs.Equations.{Writes, Reads, Spots, Skips, LawfulReading, own_spot, own_spot-inside}
+use Rattle.sw_elem.specs.Equations.{Writes, Reads, Spots, Skips, LawfulReading, own_spot}
+use Rattle.sw_elem.specs.Laws.Equations.{own_spot-inside}
 use Rattle.sw_elem.specs.Statements.{Norm, HasSpotKinds, HasNoteKinds}
 use Rattle.sw_elem.specs.Lawful.{Lawful}
 use Rattle.sw_policy.specs.Options.{Reader, reader, or_later, first_read, tried_skips}

@@ -1,5 +1,5 @@
 -- A log that grows by a part of the refusals at a time.
-use Rattle.std.proofs.Common.{List, [], ◌++◌, ◌≡◌, append_assoc, append-nil, refl, sym, ap, ◌∙◌}
+use Rattle.std.proofs.Common.{List, [], append-nil, refl, sym, ◌++◌, ◌≡◌, append_assoc, ap, ◌∙◌}
 use Rattle.sw_tree.specs.declared.fail.Refusal.{Refusal}
 use Rattle.sw_tree.specs.Logged.{HasGained, IsCut}
 

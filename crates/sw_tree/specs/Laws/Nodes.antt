@@ -1,19 +1,18 @@
 -- What is said of a node by its number stays so in a larger tree, with trees before it or behind.
-use Rattle.std.specs.Prelude.{◌≡◌, ◌<◌, ◌+◌, ℕ, List, [], ◌∷◌, ◌++◌, length, false, Some}
-use Rattle.std.proofs.Common.{refl, ap, subst, ◌∙◌, arith, length-append}
+use Rattle.std.specs.Prelude.{◌≡◌, Some, ◌<◌, length, List, [], ◌∷◌, ◌++◌, ◌+◌, ℕ, false, suc}
+use Rattle.std.proofs.Common.{ap, refl, ◌∙◌, arith, length-append, subst}
 use Rattle.std.proofs.lemmas.List.{get_or_append_left, get_or-append-add}
 use Rattle.std.proofs.lemmas.Option.{slice_get_within, slice_get-get_or, get_or_from_slice_get}
-use Rattle.sw_tree.specs.Nodes.{kinds, trees_kinds, entries_kinds, kinds-size, HasKind, IsNoteIn}
+use Rattle.sw_tree.specs.Nodes.{kinds, HasKind, trees_kinds, entries_kinds, IsNoteIn}
 use Rattle.sw_tree.specs.Placed.{Note, moved}
 use Rattle.sw_tree.specs.Steps.{Each}
-use Rattle.sw_tree.specs.Tree.{Tree, Trees, no_trees, Entries, no_entries, entry, items, pairs, by_turns, kind_of, size}
+use Rattle.sw_tree.specs.Tree.{Tree, kind_of, Trees, no_trees, items, Entries, no_entries, entry, pairs, by_turns, size, null, truth, int, text, bytes, list, map, tree, trees_size, entries_size}
 use Rattle.sw_tree.specs.Tree as node
 use Rattle.sw_tree.specs.declared.mode.Kind.{Kind}
 use Rattle.sw_tree.specs.declared.fail.DeError.{DeError}
 use Rattle.sw_tree.specs.declared.fail.DeError.TheVariants as fail
 
 -- ---- a tree's own node
-
 -- it has the number 0
 pub own_kind : (t : Tree) (k : Kind) → kind_of t ≡ k → HasKind (kinds t) 0 k
 own_kind node.null k h = ap Some h
@@ -28,7 +27,6 @@ root-below : (t : Tree) → 0 < length (kinds t)
 root-below t = slice_get_within (kinds t) 0 (kind_of t) (own_kind t (kind_of t) refl)
 
 -- ---- trees one after another
-
 -- the kinds of the nodes of trees one after another
 abbrev pub all_kinds : List Tree → List Kind
 all_kinds [] = []
@@ -43,7 +41,6 @@ pairs-kinds no_entries = refl
 pairs-kinds (entry k v es) = ap (λ ks. kinds k ++ (kinds v ++ ks)) (pairs-kinds es)
 
 -- ---- kinds one after another
-
 module _ (xs ys : List Kind) where
   pub kind_before : (n : ℕ) (k : Kind) → HasKind xs n k → HasKind (xs ++ ys) n k
   kind_before n k h =
@@ -58,7 +55,6 @@ module _ (xs ys : List Kind) where
       slice_get-get_or (xs ++ ys) (length xs + n) k c ∙ ap Some (get_or-append-add xs ys n k ∙ get_or_from_slice_get ys n k k h)
 
 -- ---- what is said of a note, and stays so in a larger tree
-
 -- a refusal, as a note of the node that has that number
 abbrev pub refusal : DeError → ℕ → Note
 refusal e n = record { error = e; number = n; inside = false }
@@ -119,3 +115,26 @@ module _ (Q : List Kind → Note → Type 0) (s : IsStable Q) where
   pub all_behind : (t : Tree) (ks : List Kind) (ns : List Note) → Each (Q ks) ns → Each (Q (kinds t ++ ks)) (moved (size t) ns)
   all_behind t ks [] h = tt
   all_behind t ks (n ∷ ns) h = (behind t ks n h.0, all_behind t ks ns h.1)
+
+-- there are as many as the tree has nodes
+mutual
+  pub kinds-size : (t : Tree) → length (kinds t) ≡ size t
+  kinds-size null = refl
+  kinds-size (truth b) = refl
+  kinds-size (int n) = refl
+  kinds-size (text s) = refl
+  kinds-size (bytes s) = refl
+  kinds-size (list ts) = ap suc (trees_kinds-size ts)
+  kinds-size (map es) = ap suc (entries_kinds-size es)
+
+  pub trees_kinds-size : (ts : Trees) → length (trees_kinds ts) ≡ trees_size ts
+  trees_kinds-size no_trees = refl
+  trees_kinds-size (tree t ts) = omega (arith, length-append (kinds t) (trees_kinds ts), kinds-size t, trees_kinds-size ts)
+
+  pub entries_kinds-size : (es : Entries) → length (entries_kinds es) ≡ entries_size es
+  entries_kinds-size no_entries = refl
+  entries_kinds-size (entry k v es) =
+      omega (arith, length-append (kinds k) (kinds v ++ entries_kinds es), length-append (kinds v) (entries_kinds es), kinds-size k, kinds-size v, entries_kinds-size es)
+
+pub IsNoteIn-below : (t : Tree) (n : Note) → IsNoteIn (kinds t) n → n.number < size t
+IsNoteIn-below t n h = omega (arith, h.below, kinds-size t)

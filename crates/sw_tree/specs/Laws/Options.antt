@@ -1,5 +1,5 @@
 -- What an equation of options says of their values.
-use Rattle.std.specs.Prelude.{◌≡◌, Option, Some, None, option_map}
+use Rattle.std.specs.Prelude.{◌≡◌, Some, None, Option, option_map}
 use Rattle.std.specs.Option.{option_and_then}
 use Rattle.std.proofs.Common.{refl}
 

@@ -1,4 +1,4 @@
-use Rattle.sw_tree.specs.View.{seen}
+use Rattle.sw_tree.specs.Inner.View.{seen}
 use Rattle.sw_core.specs.Inner.Rows.{seen_logs}
 use Rattle.sw_core.specs.Rows.{reader, each_by}
 use Rattle.sw_tree.specs.Laws.Logs.{cut_at_start}

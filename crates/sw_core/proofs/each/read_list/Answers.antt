@@ -1,4 +1,4 @@
-use Rattle.sw_tree.specs.View.{seen}
+use Rattle.sw_tree.specs.Inner.View.{seen}
 use Rattle.sw_core.proofs.Children.{list_read, list_logged}
 use Rattle.sw_core.proofs.each.read_list.Goals as goal
 

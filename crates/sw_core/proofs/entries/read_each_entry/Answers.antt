@@ -1,7 +1,7 @@
 use Rattle.std.proofs.Common.{◌≡◌, [], ◌∷◌, ◌++◌}
 use Rattle.sw_tree.specs.Mode.{at_key, at_value}
 use Rattle.sw_tree.specs.Seen.{Seen}
-use Rattle.sw_tree.specs.View.{seen}
+use Rattle.sw_tree.specs.Inner.View.{seen}
 use Rattle.sw_core.specs.Inner.Rows.{seen_reads, seen_logs, seen_turns, both, all_both}
 use Rattle.sw_core.specs.Rows.{reader, turns_by}
 use Rattle.sw_core.proofs.Rows.{entry_read, entry_gained, entry_cut, entry_behind, all_both-push}

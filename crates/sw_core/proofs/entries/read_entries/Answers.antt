@@ -1,4 +1,4 @@
-use Rattle.sw_tree.specs.View.{seen}
+use Rattle.sw_tree.specs.Inner.View.{seen}
 use Rattle.sw_core.proofs.Children.{map_read, map_logged}
 use Rattle.sw_core.proofs.entries.read_entries.Goals as goal
 

@@ -1,5 +1,5 @@
 use Rattle.sw_tree.specs.Mode.{at_key, at_value}
-use Rattle.sw_tree.specs.View.{seen}
+use Rattle.sw_tree.specs.Inner.View.{seen}
 use Rattle.sw_core.specs.Rows.{reader}
 use Rattle.sw_core.proofs.Rows.{second_cut}
 use Rattle.sw_core.proofs.entries.read_entry.Goals as goal

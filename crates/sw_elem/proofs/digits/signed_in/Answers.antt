@@ -2,7 +2,7 @@ use Rattle.std.proofs.Common.{◌≡◌, ◌∙◌, ap, sym, Some}
 use Rattle.std.specs.Int.{w128}
 use mir.Val.{to_z, of_z}
 use Rattle.std.specs.Str.Parse.{signed_digits_value}
-use Rattle.sw_elem.specs.DecimalLaws.{signed_value}
+use Rattle.sw_elem.specs.Laws.Decimal.{signed_value}
 use Rattle.sw_elem.proofs.Decimal.{held, held-numeral, signed_none}
 use Rattle.sw_elem.proofs.digits.signed_in.Goals as goal
 

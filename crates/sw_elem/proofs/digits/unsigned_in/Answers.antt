@@ -1,5 +1,5 @@
 use Rattle.std.proofs.Common.{◌∙◌, ap, sym, arith, Some}
-use Rattle.sw_elem.specs.DecimalLaws.{unsigned_value}
+use Rattle.sw_elem.specs.Laws.Decimal.{unsigned_value}
 use Rattle.sw_elem.proofs.Decimal.{few-value_of, unsigned_none}
 use Rattle.sw_elem.proofs.digits.unsigned_in.Goals as goal
 

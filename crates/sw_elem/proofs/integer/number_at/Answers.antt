@@ -1,6 +1,6 @@
 use Rattle.sw_tree.specs.Number.{key_number}
 use Rattle.sw_tree.specs.Tree.{int_at}
-use Rattle.sw_tree.specs.View.{seen}
+use Rattle.sw_tree.specs.Inner.View.{seen}
 use Rattle.sw_elem.specs.KeyPlace.{keyed_reads}
 use Rattle.sw_elem.specs.Numbers.{ranged_or_invalid}
 use Rattle.sw_elem.proofs.KeyTexts.{then_refused}

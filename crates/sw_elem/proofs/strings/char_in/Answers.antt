@@ -3,7 +3,7 @@ use Rattle.std.specs.Char.{IsScalar, encode_utf8}
 use Rattle.std.specs.Prelude.{if◌then◌else◌}
 use Rattle.sw_tree.specs.Meaning.{text}
 use Rattle.sw_elem.specs.Strings.{is_character, character_parses}
-use Rattle.sw_elem.specs.TextLaws.{character_is, is_character-encode}
+use Rattle.sw_elem.specs.Laws.Text.{character_is, is_character-encode}
 use Rattle.sw_elem.proofs.strings.char_in.Goals as goal
 
 one : (s : List ℕ) (c : ℕ) → IsScalar c → s ≡ encode_utf8 c → character_parses s ≡ Some (text (encode_utf8 c))

@@ -1,7 +1,7 @@
 use Rattle.std.proofs.Common.{string_bytes}
 use Rattle.sw_tree.specs.Meaning.{text}
-use Rattle.sw_tree.specs.Meant.{text_meaning-is}
-use Rattle.sw_elem.specs.TextLaws.{text_lawful}
+use Rattle.sw_tree.specs.Laws.Meant.{text_meaning-is}
+use Rattle.sw_elem.specs.Laws.Text.{text_lawful}
 use Rattle.sw_elem.proofs.strings.copied.Goals as goal
 
 pub returns-in-Ok : goal.returns-in-Ok

@@ -1,6 +1,6 @@
 use Rattle.std.proofs.Common.{◌≡◌, ◌++◌, take, drop}
 use Rattle.sw_json.specs.Bytes.{front, behind}
-use Rattle.sw_json.specs.Class.{test_of}
+use Rattle.sw_json.specs.Inner.Class.{test_of}
 use Rattle.sw_json.proofs.class.split_class.Given as goal
 
 abbrev pub invariant-loop-i : goal.invariant-loop-i

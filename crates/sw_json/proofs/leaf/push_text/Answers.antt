@@ -2,10 +2,10 @@ use Rattle.std.proofs.Common.{[], Some, ap, sym, subst, ◌∙◌}
 use Rattle.std.specs.Prelude.{codes}
 use Rattle.sw_tree.specs.Tree.{text}
 use Rattle.sw_json.specs.Text.{escaped, json_text}
-use Rattle.sw_json.specs.Pushed.{IsPushed}
+use Rattle.sw_json.specs.Inner.Pushed.{IsPushed}
 use Rattle.sw_json.proofs.Pushing.{onto, onto-three, pushed-moved}
 use Rattle.sw_json.proofs.Runs.{plain_text}
-use Rattle.sw_json.specs.Laws.Texts.{quoted_text}
+use Rattle.sw_json.proofs.Texts.{quoted_text}
 use Rattle.sw_json.proofs.leaf.push_text.Goals as goal
 
 pub returns-then-are_plain : goal.returns-then-are_plain

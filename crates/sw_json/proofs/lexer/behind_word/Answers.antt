@@ -1,6 +1,6 @@
 use Rattle.std.proofs.lemmas.Bool.Decides.{Decides-eqb}
 use Rattle.std.proofs.lemmas.Slice.Eq.{strip_prefix_is}
-use Rattle.sw_json.specs.Laws.Lexemes.{word_read}
+use Rattle.sw_json.proofs.Lexemes.{word_read}
 use Rattle.sw_json.proofs.lexer.behind_word.Goals as goal
 
 pub returns : goal.returns

@@ -1,6 +1,7 @@
 use Rattle.std.proofs.Common.{arith}
 use Rattle.std.proofs.lemmas.Bool.Decides.{nat_tests}
-use Rattle.sw_json.specs.Laws.Lexemes.{IsOther, text_read, literal_read}
+use Rattle.sw_json.specs.Laws.Lexemes.{IsOther}
+use Rattle.sw_json.proofs.Lexemes.{text_read, literal_read}
 use Rattle.sw_json.proofs.lexer.read_lexeme.Goals as goal
 
 pub returns-in-34-clause-token : goal.returns-in-34-clause-token

@@ -1,5 +1,5 @@
 use Rattle.std.proofs.Common.{subst, to_z-of_z}
-use Rattle.sw_json.specs.Pushed.{IsPushed}
+use Rattle.sw_json.specs.Inner.Pushed.{IsPushed}
 use Rattle.sw_json.proofs.Digits.{digits_part}
 use Rattle.sw_json.proofs.piece.put_short_text.Goals as goal
 

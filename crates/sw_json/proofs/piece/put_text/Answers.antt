@@ -1,5 +1,5 @@
 use Rattle.std.proofs.Common.{subst}
-use Rattle.sw_json.specs.Pushed.{IsPushed}
+use Rattle.sw_json.specs.Inner.Pushed.{IsPushed}
 use Rattle.sw_json.proofs.Digits.{text_part}
 use Rattle.sw_json.proofs.Runs.{plain_text}
 use Rattle.sw_json.proofs.piece.put_text.Goals as goal

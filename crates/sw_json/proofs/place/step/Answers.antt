@@ -1,6 +1,6 @@
 use Rattle.std.proofs.Common.{◌≡◌, ℕ, List, refl}
-use Rattle.sw_json.specs.Lexeme.{token_of}
-use Rattle.sw_json.specs.Place.{place_value, place_fresh_list}
+use Rattle.sw_json.specs.Inner.Lexeme.{token_of}
+use Rattle.sw_json.specs.Inner.Place.{place_value, place_fresh_list}
 use Rattle.sw_json.specs.declared.lexer.Lexeme.{Lexeme}
 use Rattle.sw_json.specs.declared.lexer.Lexeme.TheVariants.{CloseList}
 use Rattle.sw_json.specs.declared.place.Open.{Open}

@@ -1,4 +1,4 @@
-use Rattle.sw_json.specs.Plain.{ArePlain}
+use Rattle.sw_json.specs.Inner.Plain.{ArePlain}
 use Rattle.sw_json.proofs.plain.are_few_plain.Given as goal
 
 abbrev pub invariant-loop-byte : goal.invariant-loop-byte

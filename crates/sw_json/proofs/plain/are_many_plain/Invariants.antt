@@ -1,5 +1,5 @@
 use Rattle.std.proofs.Common.{◌-◌, length}
-use Rattle.sw_json.specs.Plain.{ArePlain}
+use Rattle.sw_json.specs.Inner.Plain.{ArePlain}
 use Rattle.sw_json.proofs.plain.are_many_plain.Given as goal
 
 abbrev pub invariant-loop-at : goal.invariant-loop-at

@@ -2,7 +2,7 @@ use Rattle.std.proofs.Common.{sym, ap, ◌∙◌, arith}
 use Rattle.std.proofs.lemmas.List.{take_rest}
 use Rattle.std.specs.List.{prefix_len}
 use lib.Count.{count_trailing_zeros}
-use Rattle.sw_json.specs.Plain.{is_plain_ascii}
+use Rattle.sw_json.specs.Inner.Plain.{is_plain_ascii}
 use Rattle.sw_json.proofs.Stops.{goes_through, ends_within, len_fits}
 use Rattle.sw_json.proofs.plain.ascii_len.Goals as goal
 

@@ -1,6 +1,6 @@
 use Rattle.std.proofs.Common.{◌≡◌, ◌+◌, ◌-◌, ◌≤◌, length, drop}
 use Rattle.std.specs.List.{prefix_len}
-use Rattle.sw_json.specs.Plain.{is_plain_ascii}
+use Rattle.sw_json.specs.Inner.Plain.{is_plain_ascii}
 use Rattle.sw_json.proofs.plain.short_ascii_len.Given as goal
 
 abbrev pub invariant-loop-len : goal.invariant-loop-len

@@ -1,6 +1,6 @@
 use Rattle.std.proofs.Common.{◌≡◌, ◌∷◌, take, drop, ap, sym, ◌∙◌}
 use Rattle.sw_json.specs.Bytes.{behind}
-use Rattle.sw_json.specs.Plain.{is_plain_ascii}
+use Rattle.sw_json.specs.Inner.Plain.{is_plain_ascii}
 use Rattle.sw_json.proofs.Stops.{front_len, behind_len, ascii_run, ascii_utf8}
 use Rattle.sw_json.proofs.plain.split_ascii_text.Goals as goal
 

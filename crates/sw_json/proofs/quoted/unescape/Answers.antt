@@ -1,7 +1,7 @@
 use Rattle.std.proofs.Common.{◌≡◌, ◌<◌, length, Some, ◌∷◌, ◌++◌, ap, sym, ◌∙◌, arith}
 use Rattle.std.specs.Char.{encode_utf8}
 use Rattle.sw_json.specs.Bytes.{is_plain, front, behind}
-use Rattle.sw_json.specs.Unescaping.{unescaped}
+use Rattle.sw_json.specs.Inner.Unescaping.{unescaped}
 use Rattle.sw_json.proofs.Unescapes.{closed_there, ended_there, stuck_there, refused_there, goes_on, after_shorter, escape_shorter}
 use Rattle.sw_json.proofs.quoted.unescape.Goals as goal
 

@@ -1,5 +1,5 @@
 use Rattle.std.proofs.Common.{◌≡◌, ◌≤◌, length}
-use Rattle.sw_json.specs.Unescaping.{unescaped}
+use Rattle.sw_json.specs.Inner.Unescaping.{unescaped}
 use Rattle.sw_json.proofs.quoted.unescape.Given as goal
 
 abbrev pub invariant-runs : goal.invariant-runs

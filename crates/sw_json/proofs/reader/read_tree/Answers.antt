@@ -5,10 +5,11 @@ use Rattle.sw_tree.specs.Tree.{Tree}
 use Rattle.sw_tree.specs.declared.fail.WireError.TheVariants.{Syntax}
 use Rattle.sw_json.specs.Token.{Token}
 use Rattle.sw_json.specs.Grammar.{skip}
-use Rattle.sw_json.specs.Lexeme.{token_of}
+use Rattle.sw_json.specs.Inner.Lexeme.{token_of}
 use Rattle.sw_json.specs.Spelled.{spelled}
 use Rattle.sw_json.specs.declared.lexer.Lexeme.{Lexeme}
-use Rattle.sw_json.specs.Laws.Completion.{shorter, tree_spelled, err_spelled, refused_by}
+use Rattle.sw_json.specs.Laws.Completion.{shorter}
+use Rattle.sw_json.proofs.Completion.{tree_spelled, err_spelled, refused_by}
 use Rattle.sw_tree.specs.Laws.Options.{some_is}
 use Rattle.sw_json.proofs.Stands as stands
 use Rattle.sw_json.proofs.Taking.{next_found, took, turn_taken, still_stands}

@@ -4,7 +4,7 @@ use Rattle.std.specs.Prelude.{neg_ℤ}
 use mir.Syntax.{w64}
 use mir.Val.{to_z, of_z}
 use lib.IntN.{◌-ℤ◌}
-use Rattle.sw_json.specs.Short.{IsShort}
+use Rattle.sw_json.specs.Inner.Short.{IsShort}
 use Rattle.sw_json.proofs.ShortNumbers.{short_plain, short_negative}
 use Rattle.sw_json.proofs.short.short_number.Goals as goal
 

@@ -1,4 +1,4 @@
-use Rattle.sw_json.specs.Laws.PrintedUtf8.{image_utf8, printed_utf8}
+use Rattle.sw_json.proofs.PrintedUtf8.{image_utf8, printed_utf8}
 use Rattle.sw_json.proofs.spelling.printed_text_is_utf8.Goals as goal
 
 pub returns-clause-image : goal.returns-clause-image

@@ -1,4 +1,4 @@
-use Rattle.sw_json.specs.Laws.Keys.{unprinted, refused_key}
+use Rattle.sw_json.proofs.Keys.{unprinted, refused_key}
 use Rattle.sw_json.proofs.spelling.refused_keys_are_those_of_other_kinds.Goals as goal
 
 pub returns : goal.returns

@@ -1,4 +1,5 @@
-use Rattle.sw_json.specs.Laws.Completion.{tree_spelled, tree_found, err_spelled, err_found}
+use Rattle.sw_json.proofs.Completion.{tree_spelled, err_spelled, err_found}
+use Rattle.sw_json.specs.Laws.Completion.{tree_found}
 use Rattle.sw_json.proofs.spelling.spelled_is_the_grammar.Goals as goal
 
 pub returns-clause-tree : goal.returns-clause-tree

@@ -1,4 +1,4 @@
-use Rattle.sw_json.specs.Laws.WholeNumbers.{digits_value, no_value}
+use Rattle.sw_json.proofs.WholeNumbers.{digits_value, no_value}
 use Rattle.sw_json.proofs.spelling.value_is_that_of_the_digits.Goals as goal
 
 pub returns-clause-digits : goal.returns-clause-digits

@@ -1,5 +1,5 @@
 use Rattle.std.proofs.Common.{Err, ap, ◌∙◌, sym}
-use Rattle.sw_tree.specs.View.{seen}
+use Rattle.sw_tree.specs.Inner.View.{seen}
 use Rattle.sw_policy.specs.Options.{first_read}
 use Rattle.sw_policy.specs.Inner.Chosen.{before}
 use Rattle.sw_policy.proofs.Refusals.{none_reads}

@@ -1,5 +1,5 @@
 use Rattle.sw_tree.specs.Path.{HasPlace}
-use Rattle.sw_tree.specs.View.{seen}
+use Rattle.sw_tree.specs.Inner.View.{seen}
 use Rattle.sw_tree.specs.declared.fail.Refusal.{Refusal}
 use Rattle.sw_tool.proofs.Logged.{each_at, told_none, told_more}
 use Rattle.sw_tool.proofs.log.told_in.Goals as goal

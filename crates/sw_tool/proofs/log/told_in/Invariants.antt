@@ -1,5 +1,5 @@
 use Rattle.std.proofs.Common.{length, take, string_bytes}
-use Rattle.sw_tree.specs.View.{seen}
+use Rattle.sw_tree.specs.Inner.View.{seen}
 use Rattle.sw_tool.specs.Log.{heading}
 use Rattle.sw_tool.specs.Path.{IsPathIn}
 use Rattle.sw_tool.specs.Inner.Log.{IsTold}

@@ -1,5 +1,5 @@
 use Rattle.std.proofs.Common.{arith, ap}
-use Rattle.sw_tree.specs.View.{seen}
+use Rattle.sw_tree.specs.Inner.View.{seen}
 use Rattle.sw_tree.specs.Tree.{depth}
 use Rattle.sw_tree.proofs.Shown.{list_seen, map_seen}
 use Rattle.sw_tree.proofs.foreign.+foreign_in.Goals as goal

@@ -1,8 +1,8 @@
 use Rattle.std.proofs.Common.{◌≡◌, ◌+◌, ◌*◌, ◌≤◌}
 use Rattle.sw_tree.specs.Tree.{depth, trees, trees_depth, entries, entries_depth}
-use Rattle.sw_tree.specs.Seen.{trees_of, pairs_of}
-use Rattle.sw_tree.specs.View.{tree_of}
-use Rattle.sw_tree.specs.ForeignSeen.{foreign_each, foreign_each_entry}
+use Rattle.sw_tree.specs.Inner.Seen.{trees_of, pairs_of}
+use Rattle.sw_tree.specs.Inner.View.{tree_of}
+use Rattle.sw_tree.specs.Inner.ForeignSeen.{foreign_each, foreign_each_entry}
 use Rattle.sw_tree.proofs.foreign.+foreign_in.Given as goal
 
 abbrev pub invariant-foreign_in_items-loop-item : goal.invariant-foreign_in_items-loop-item

@@ -2,8 +2,8 @@ use Rattle.std.proofs.Common.{ap, ◌∙◌, ◌≡◌, Some, arith}
 use Rattle.std.specs.Prelude.{Vec, option_map}
 use Rattle.std.specs.declared.alloc.Global.{Global}
 use Rattle.sw_tree.specs.Tree.{Tree, depth, list, map, trees, entries}
-use Rattle.sw_tree.specs.Seen.{trees_of, pairs_of}
-use Rattle.sw_tree.specs.View.{seen, tree_of}
+use Rattle.sw_tree.specs.Inner.Seen.{trees_of, pairs_of}
+use Rattle.sw_tree.specs.Inner.View.{seen, tree_of}
 use Rattle.sw_tree.specs.Image.{value_image, key_image, trees_image, entries_image}
 use Rattle.sw_tree.proofs.Shown.{list_seen, map_seen, shallow_view}
 use Rattle.sw_tree.proofs.ImageLemmas.{value_image-depth, image_on, image_lacks, images_all, entry_image_on, key_image_lacks, value_image_lacks, entry_images_all, items_shallow, entries_shallow, refused}

@@ -1,7 +1,7 @@
 use Rattle.std.proofs.Common.{◌≡◌, ◌+◌, ◌*◌, ◌≤◌}
 use Rattle.sw_tree.specs.Tree.{depth, trees, trees_depth, entries, entries_depth}
-use Rattle.sw_tree.specs.Seen.{trees_of, pairs_of}
-use Rattle.sw_tree.specs.View.{tree_of}
+use Rattle.sw_tree.specs.Inner.Seen.{trees_of, pairs_of}
+use Rattle.sw_tree.specs.Inner.View.{tree_of}
 use Rattle.sw_tree.specs.Image.{trees_image, entries_image}
 use Rattle.sw_tree.proofs.ImageLemmas.{onto, onto_entries}
 use Rattle.sw_tree.proofs.images.+image.Given as goal

@@ -1,6 +1,6 @@
 use Rattle.std.proofs.Common.{ap, arith}
 use Rattle.sw_tree.specs.Tree.{depth}
-use Rattle.sw_tree.specs.View.{seen}
+use Rattle.sw_tree.specs.Inner.View.{seen}
 use Rattle.sw_tree.proofs.Shown.{list_seen, map_seen, shallow_view}
 use Rattle.sw_tree.proofs.levels.+levels_of.Goals as goal
 

@@ -1,7 +1,7 @@
 use Rattle.std.proofs.Common.{◌≡◌, ◌+◌, ◌*◌, max}
 use Rattle.sw_tree.specs.Tree.{depth, trees, trees_depth, entries, entries_depth}
-use Rattle.sw_tree.specs.Seen.{trees_of, pairs_of}
-use Rattle.sw_tree.specs.View.{tree_of}
+use Rattle.sw_tree.specs.Inner.Seen.{trees_of, pairs_of}
+use Rattle.sw_tree.specs.Inner.View.{tree_of}
 use Rattle.sw_tree.proofs.levels.+levels_of.Given as goal
 
 abbrev pub invariant-levels_of_items-loop-item : goal.invariant-levels_of_items-loop-item

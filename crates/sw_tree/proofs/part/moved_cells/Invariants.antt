@@ -1,5 +1,5 @@
 use Rattle.std.proofs.Common.{◌≡◌, take, map}
-use Rattle.sw_tree.specs.Moved.{moved}
+use Rattle.sw_tree.specs.Inner.Moved.{moved}
 use Rattle.sw_tree.proofs.part.moved_cells.Given as goal
 
 abbrev pub invariant-loop-cell : goal.invariant-loop-cell

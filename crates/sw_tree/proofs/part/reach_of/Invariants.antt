@@ -1,5 +1,5 @@
 use Rattle.std.proofs.Common.{◌≡◌, drop}
-use Rattle.sw_tree.specs.Moved.{reach_from}
+use Rattle.sw_tree.specs.Inner.Moved.{reach_from}
 use Rattle.sw_tree.proofs.part.reach_of.Given as goal
 
 abbrev pub invariant-loop-cell : goal.invariant-loop-cell

@@ -1,7 +1,7 @@
 use Rattle.std.proofs.Common.{◌≡◌, ◌+◌, ◌*◌, ◌≤◌, false, true}
 use Rattle.sw_tree.specs.Tree.{depth, trees, trees_depth, entries, entries_depth, by_turns}
-use Rattle.sw_tree.specs.Seen.{trees_of, pairs_of}
-use Rattle.sw_tree.specs.View.{tree_of}
+use Rattle.sw_tree.specs.Inner.Seen.{trees_of, pairs_of}
+use Rattle.sw_tree.specs.Inner.View.{tree_of}
 use Rattle.sw_tree.specs.Building.{puts}
 use Rattle.sw_tree.proofs.write.+write_view.Given as goal
 

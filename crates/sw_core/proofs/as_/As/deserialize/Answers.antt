@@ -1,4 +1,4 @@
-use Rattle.sw_tree.specs.View.{seen}
+use Rattle.sw_tree.specs.Inner.View.{seen}
 use Rattle.sw_core.proofs.Again.{read_meant}
 use Rattle.sw_core.proofs.as_.As.deserialize.Goals as goal
 

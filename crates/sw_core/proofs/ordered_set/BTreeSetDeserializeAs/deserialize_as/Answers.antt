@@ -1,4 +1,4 @@
-use Rattle.sw_tree.specs.View.{seen}
+use Rattle.sw_tree.specs.Inner.View.{seen}
 use Rattle.sw_core.specs.Vec.{list_reads, list_spot}
 use Rattle.sw_core.proofs.InOrder.{set_put}
 use Rattle.sw_core.proofs.ordered_set.BTreeSetDeserializeAs.deserialize_as.Goals as goal

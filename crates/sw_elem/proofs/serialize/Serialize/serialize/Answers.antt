@@ -1,4 +1,4 @@
-use Rattle.sw_tree.specs.NodeBuilder.{node_put}
+use Rattle.sw_tree.specs.Laws.NodeBuilder.{node_put}
 use Rattle.sw_elem.proofs.serialize.Serialize.serialize.Goals as goal
 
 pub returns-in-Some : goal.returns-in-Some

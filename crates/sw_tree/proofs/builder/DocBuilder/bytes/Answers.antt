@@ -1,6 +1,6 @@
 use Rattle.std.proofs.Common.{ap, subst, List, ℕ, ◌<◌}
 use Rattle.sw_tree.specs.Steps.{Each}
-use Rattle.sw_tree.specs.ProperLaws.{bytes-part}
+use Rattle.sw_tree.proofs.Proper.{bytes-part}
 use Rattle.sw_tree.specs.Builder.{Built}
 use Rattle.sw_tree.proofs.builder.DocBuilder.bytes.Goals as goal
 

@@ -1,7 +1,7 @@
 use Rattle.std.proofs.Common.{ap, ◌∙◌, reverse, arith, length, length-append, ◌+◌, ◌≤◌}
 use Rattle.sw_tree.specs.Tree.{bytes}
-use Rattle.sw_tree.specs.ProperLaws.{bytes-fit}
-use Rattle.sw_tree.specs.Cells.{Store}
+use Rattle.sw_tree.proofs.Proper.{bytes-fit}
+use Rattle.sw_tree.specs.Inner.Cells.{Store}
 use Rattle.sw_tree.specs.Builder.{Built, added, longer}
 use Rattle.sw_tree.proofs.BuilderLemmas.{kids_le, kept_bytes, frames_len, stands}
 use Rattle.sw_tree.proofs.builder.DocBuilder.copied_bytes.Goals as goal

@@ -1,7 +1,8 @@
 use Rattle.std.proofs.Common.{◌≡◌, ◌+◌, ap, ◌∙◌, reverse, length, arith}
 use Rattle.std.proofs.lemmas.List.{length-reverse}
 use Rattle.std.specs.Prelude.{nat_le}
-use Rattle.sw_tree.specs.Builder.{Built, takes}
+use Rattle.sw_tree.specs.Builder.{Built}
+use Rattle.sw_tree.specs.Inner.Builder.{takes}
 use Rattle.sw_tree.proofs.Rooms.{takes_open}
 use Rattle.sw_tree.proofs.builder.DocBuilder.takes.Goals as goal
 use Rattle.sw_tree.proofs.builder.DocBuilder.takes.Goals.{else-open-eq0-via-then-open-eq0+else-self-gt0, else-open-eq0-via-else-open-eq0}

@@ -1,6 +1,6 @@
 use Rattle.std.proofs.Common.{ap, ◌∙◌, reverse, arith}
 use Rattle.sw_tree.specs.Tree.{int}
-use Rattle.sw_tree.specs.Cells.{Store}
+use Rattle.sw_tree.specs.Inner.Cells.{Store}
 use Rattle.sw_tree.specs.Builder.{Built, added}
 use Rattle.sw_tree.proofs.BuilderLemmas.{kids_le, kept_wide, longer-none, stands}
 use Rattle.sw_tree.proofs.builder.DocBuilder.wide.Goals as goal

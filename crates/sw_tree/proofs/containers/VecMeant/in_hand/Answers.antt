@@ -1,6 +1,6 @@
 use Rattle.std.proofs.Common.{map, subst}
 use Rattle.sw_tree.specs.Steps.{Each}
-use Rattle.sw_tree.specs.Meant.{list_meaning-is}
+use Rattle.sw_tree.proofs.MeantLemmas.{list_meaning-is}
 use Rattle.sw_tree.proofs.containers.VecMeant.in_hand.Goals as goal
 
 pub returns : goal.returns

@@ -1,6 +1,6 @@
 use Rattle.std.proofs.Common.{◌∙◌, map}
 use Rattle.sw_tree.specs.Steps.{Each}
-use Rattle.sw_tree.specs.SortedLaws.{hashed_set_is}
+use Rattle.sw_tree.proofs.Sorted.{hashed_set_is}
 use Rattle.sw_tree.proofs.Remaining.{suffices_start, suffices_next, suffices_end}
 use Rattle.sw_tree.proofs.hashed.HashSetMeant.in_hand.Goals as goal
 

@@ -2,8 +2,8 @@ use Rattle.std.proofs.Common.{◌≡◌, List, ap, ◌∙◌, arith}
 use Rattle.std.specs.Prelude.{slice_range}
 use Rattle.sw_tree.specs.declared.cell.Cell.{Cell}
 use Rattle.sw_tree.specs.declared.cell.Cell.TheVariants.{Null}
-use Rattle.sw_tree.specs.Cells.{first}
-use Rattle.sw_tree.specs.Sheet.{sheet_store}
+use Rattle.sw_tree.specs.Inner.Cells.{first}
+use Rattle.sw_tree.specs.Inner.Sheet.{sheet_store}
 use Rattle.sw_tree.proofs.Parts.{cut_at, stop_inside}
 use Rattle.sw_tree.proofs.kept.Kept.part.Goals as goal
 

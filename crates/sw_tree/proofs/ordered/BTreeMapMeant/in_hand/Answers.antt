@@ -1,7 +1,7 @@
 use Rattle.std.proofs.Common.{◌∙◌, map}
 use Rattle.sw_tree.specs.Steps.{Each}
 use Rattle.sw_tree.specs.Meant.{IsPairOf, pair_meaning}
-use Rattle.sw_tree.specs.SortedLaws.{ordered_map_is}
+use Rattle.sw_tree.proofs.Sorted.{ordered_map_is}
 use Rattle.sw_tree.proofs.Remaining.{suffices_start, suffices_next, suffices_end}
 use Rattle.sw_tree.proofs.ordered.BTreeMapMeant.in_hand.Goals as goal
 

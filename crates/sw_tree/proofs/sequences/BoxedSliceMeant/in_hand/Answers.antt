@@ -1,7 +1,7 @@
 use Rattle.std.proofs.Common.{map, subst}
 use Rattle.std.specs.Box.{boxed_slice_items}
 use Rattle.sw_tree.specs.Steps.{Each}
-use Rattle.sw_tree.specs.Meant.{list_meaning-is}
+use Rattle.sw_tree.proofs.MeantLemmas.{list_meaning-is}
 use Rattle.sw_tree.proofs.sequences.BoxedSliceMeant.in_hand.Goals as goal
 
 pub returns : goal.returns

@@ -2,7 +2,7 @@ use Rattle.std.proofs.Common.{◌≡◌, map, subst, rules}
 use Rattle.std.specs.Map.Iter.{deref}
 use Rattle.std.proofs.lemmas.Map.Iter.{iter_end}
 use Rattle.sw_tree.specs.Steps.{Each}
-use Rattle.sw_tree.specs.Meant.{list_meaning-is}
+use Rattle.sw_tree.proofs.MeantLemmas.{list_meaning-is}
 use Rattle.sw_tree.proofs.Gathered.{Each-push, Each-through}
 use Rattle.sw_tree.proofs.sequences.LinkedListMeant.in_hand.Goals as goal
 

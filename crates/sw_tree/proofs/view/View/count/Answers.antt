@@ -1,6 +1,6 @@
 use Rattle.std.proofs.Common.{refl}
 use Rattle.std.proofs.lemmas.List.{length-take-le}
-use Rattle.sw_tree.specs.Tree.{items-trees, pairs-entries}
+use Rattle.sw_tree.specs.Laws.Tree.{items-trees, pairs-entries}
 use Rattle.sw_tree.proofs.Lists.{turns_length}
 use Rattle.sw_tree.proofs.view.View.count.Goals as goal
 

@@ -1,0 +1,2 @@
+-- What models and private clauses alone cite.
+pub mod Decimal

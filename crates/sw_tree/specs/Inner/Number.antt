@@ -1,0 +1,14 @@
+-- Digits by tests on bytes.
+use Rattle.std.specs.Prelude.{◌≡◌, ℕ, ◌<◌, ◌^◌, List, true}
+use Rattle.std.specs.List.{list_all}
+use Rattle.sw_tree.specs.Number.{is_digit, value_of, is_int}
+
+-- digits alone, of a value below 2^128
+pub record AreWide (ds : List ℕ) : Type 0 where
+  pub digits : list_all is_digit ds ≡ true
+  pub small : value_of ds < 2 ^ 128
+
+-- an int, of a value below 2^128
+pub record IsWideInt (ds : List ℕ) : Type 0 where
+  pub int : is_int ds ≡ true
+  pub small : value_of ds < 2 ^ 128
