@@ -1,4 +1,3 @@
-pub mod Converted
 pub mod Decimal
 pub mod Foreigns
 pub mod KeyTexts

@@ -10,3 +10,4 @@ pub mod Numbers
 pub mod Takes
 pub mod Text
 pub mod TextLeaf
+pub mod Converted
