@@ -2,7 +2,7 @@
 
 use serde::de::{Deserialize, Deserializer, Error, MapAccess, Visitor};
 use serde::ser::{Serialize, Serializer};
-use std::collections::{BTreeMap, VecDeque};
+use std::collections::{BTreeMap, BTreeSet, LinkedList, VecDeque};
 use std::fmt::{self, Display};
 use std::marker::PhantomData;
 use std::str::FromStr;
@@ -28,6 +28,7 @@ impl<T> Holds<T> for Same<T> {
 }
 
 /// A value by its text.
+#[derive(PartialEq, Eq, PartialOrd, Ord)]
 pub struct Shown<T>(T);
 
 impl<T> Holds<T> for Shown<T> {
@@ -67,6 +68,42 @@ impl<T, A: Holds<T>> Holds<VecDeque<T>> for VecDeque<A> {
     }
     fn value(self) -> VecDeque<T> {
         self.into_iter().map(A::value).collect()
+    }
+}
+
+impl<T, A: Holds<T>> Holds<LinkedList<T>> for LinkedList<A> {
+    fn of(value: LinkedList<T>) -> Self {
+        value.into_iter().map(A::of).collect()
+    }
+    fn value(self) -> LinkedList<T> {
+        self.into_iter().map(A::value).collect()
+    }
+}
+
+impl<T, A: Holds<T>> Holds<Box<[T]>> for Box<[A]> {
+    fn of(value: Box<[T]>) -> Self {
+        value.into_vec().into_iter().map(A::of).collect()
+    }
+    fn value(self) -> Box<[T]> {
+        self.into_vec().into_iter().map(A::value).collect()
+    }
+}
+
+impl<T: Ord, A: Holds<T> + Ord> Holds<BTreeSet<T>> for BTreeSet<A> {
+    fn of(value: BTreeSet<T>) -> Self {
+        value.into_iter().map(A::of).collect()
+    }
+    fn value(self) -> BTreeSet<T> {
+        self.into_iter().map(A::value).collect()
+    }
+}
+
+impl<T, A: Holds<T>> Holds<Option<T>> for Option<A> {
+    fn of(value: Option<T>) -> Self {
+        value.map(A::of)
+    }
+    fn value(self) -> Option<T> {
+        self.map(A::value)
     }
 }
 

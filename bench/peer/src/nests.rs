@@ -3,7 +3,7 @@
 use crate::adapters::{Aside, Choice, Holds, Pairs, PreferMany, PreferOne, Same, Shown};
 use serde::{de::DeserializeOwned, Serialize};
 use serde_json::Value;
-use std::collections::{BTreeMap, VecDeque};
+use std::collections::{BTreeMap, BTreeSet, LinkedList, VecDeque};
 
 /// The text that `S` writes for what `R` reads; none where either refuses.
 fn apart<R: Holds<T> + DeserializeOwned, S: Holds<T> + Serialize, T>(text: &str) -> Option<String> {
@@ -33,6 +33,14 @@ pub fn answer(nest: &str, text: &str) -> Option<String> {
         "Vec<Same> of Vec<u8>" => again::<Vec<Same<u8>>, Vec<u8>>(text),
         "Vec<DisplayFromStr> of Vec<u32>" => again::<Vec<Shown<u32>>, Vec<u32>>(text),
         "VecDeque<DisplayFromStr> of VecDeque<u32>" => again::<VecDeque<Shown<u32>>, VecDeque<u32>>(text),
+        "LinkedList<DisplayFromStr> of LinkedList<u32>" => again::<LinkedList<Shown<u32>>, LinkedList<u32>>(text),
+        "Box<[DisplayFromStr]> of Box<[u32]>" => again::<Box<[Shown<u32>]>, Box<[u32]>>(text),
+        "BTreeSet<DisplayFromStr> of BTreeSet<u32>" => again::<BTreeSet<Shown<u32>>, BTreeSet<u32>>(text),
+        "Option<DisplayFromStr> of Option<u32>" => again::<Option<Shown<u32>>, Option<u32>>(text),
+        "Option<Option<Same>> of Option<Option<u8>>" => {
+            again::<Option<Option<Same<u8>>>, Option<Option<u8>>>(text)
+        }
+        "Vec<Option<Same>> of Vec<Option<u8>>" => again::<Vec<Option<Same<u8>>>, Vec<Option<u8>>>(text),
         "Box<DisplayFromStr> of Box<u32>" => again::<Box<Shown<u32>>, Box<u32>>(text),
         "Box<Vec<DisplayFromStr>> of Box<Vec<u32>>" => again::<Box<Vec<Shown<u32>>>, Box<Vec<u32>>>(text),
         "BTreeMap<Same, DisplayFromStr> of BTreeMap<String, u32>" => {
