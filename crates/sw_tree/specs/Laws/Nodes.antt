@@ -12,6 +12,31 @@ use Rattle.sw_tree.specs.declared.mode.Kind.{Kind}
 use Rattle.sw_tree.specs.declared.fail.DeError.{DeError}
 use Rattle.sw_tree.specs.declared.fail.DeError.TheVariants as fail
 
+-- ---- how many there are
+
+-- as many kinds as the tree has nodes
+mutual
+  pub kinds-size : (t : Tree) → length (kinds t) ≡ size t
+  kinds-size null = refl
+  kinds-size (truth b) = refl
+  kinds-size (int n) = refl
+  kinds-size (text s) = refl
+  kinds-size (bytes s) = refl
+  kinds-size (list ts) = ap suc (trees_kinds-size ts)
+  kinds-size (map es) = ap suc (entries_kinds-size es)
+
+  pub trees_kinds-size : (ts : Trees) → length (trees_kinds ts) ≡ trees_size ts
+  trees_kinds-size no_trees = refl
+  trees_kinds-size (tree t ts) = omega (arith, length-append (kinds t) (trees_kinds ts), kinds-size t, trees_kinds-size ts)
+
+  pub entries_kinds-size : (es : Entries) → length (entries_kinds es) ≡ entries_size es
+  entries_kinds-size no_entries = refl
+  entries_kinds-size (entry k v es) =
+      omega (arith, length-append (kinds k) (kinds v ++ entries_kinds es), length-append (kinds v) (entries_kinds es), kinds-size k, kinds-size v, entries_kinds-size es)
+
+pub IsNoteIn-below : (t : Tree) (n : Note) → IsNoteIn (kinds t) n → n.number < size t
+IsNoteIn-below t n h = omega (arith, h.below, kinds-size t)
+
 -- ---- a tree's own node
 -- it has the number 0
 pub own_kind : (t : Tree) (k : Kind) → kind_of t ≡ k → HasKind (kinds t) 0 k
@@ -115,26 +140,3 @@ module _ (Q : List Kind → Note → Type 0) (s : IsStable Q) where
   pub all_behind : (t : Tree) (ks : List Kind) (ns : List Note) → Each (Q ks) ns → Each (Q (kinds t ++ ks)) (moved (size t) ns)
   all_behind t ks [] h = tt
   all_behind t ks (n ∷ ns) h = (behind t ks n h.0, all_behind t ks ns h.1)
-
--- there are as many as the tree has nodes
-mutual
-  pub kinds-size : (t : Tree) → length (kinds t) ≡ size t
-  kinds-size null = refl
-  kinds-size (truth b) = refl
-  kinds-size (int n) = refl
-  kinds-size (text s) = refl
-  kinds-size (bytes s) = refl
-  kinds-size (list ts) = ap suc (trees_kinds-size ts)
-  kinds-size (map es) = ap suc (entries_kinds-size es)
-
-  pub trees_kinds-size : (ts : Trees) → length (trees_kinds ts) ≡ trees_size ts
-  trees_kinds-size no_trees = refl
-  trees_kinds-size (tree t ts) = omega (arith, length-append (kinds t) (trees_kinds ts), kinds-size t, trees_kinds-size ts)
-
-  pub entries_kinds-size : (es : Entries) → length (entries_kinds es) ≡ entries_size es
-  entries_kinds-size no_entries = refl
-  entries_kinds-size (entry k v es) =
-      omega (arith, length-append (kinds k) (kinds v ++ entries_kinds es), length-append (kinds v) (entries_kinds es), kinds-size k, kinds-size v, entries_kinds-size es)
-
-pub IsNoteIn-below : (t : Tree) (n : Note) → IsNoteIn (kinds t) n → n.number < size t
-IsNoteIn-below t n h = omega (arith, h.below, kinds-size t)
