@@ -11,6 +11,7 @@ pub mod Text
 pub mod Decimal
 pub mod Statements
 pub mod Lawful
+pub mod Converted
 pub mod Facts
 pub mod Classes
 pub mod Inner

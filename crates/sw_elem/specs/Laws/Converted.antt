@@ -1,4 +1,4 @@
--- What is written, read and normed of a value through another, of which it is made one to one.
+-- The laws of a value that is made of another's one to one are that other's.
 use Rattle.std.specs.Prelude.{Ok, ◌≡◌, Result, Err}
 use Rattle.std.proofs.Common.{refl, ap, ◌∙◌, subst}
 use Rattle.sw_tree.specs.Meaning.{Meaning}
@@ -9,17 +9,7 @@ use Rattle.sw_check.specs.Form.{Form}
 use Rattle.sw_elem.specs.Equations.{Writes, Reads, Spots, Skips, LawfulReading}
 use Rattle.sw_elem.specs.Statements.{Norm}
 use Rattle.sw_elem.specs.Lawful.{Lawful}
-
--- what it is made of is written,
-abbrev pub converted_writes : (Meaning → Meaning) → Writes → Writes
-converted_writes from w m v = w m (from v)
-
--- and read, and then made into it
-abbrev pub converted_reads : (Meaning → Meaning) → Reads → Reads
-converted_reads to r m t = bind (r m t) (λ u. Ok (to u))
-
-abbrev pub converted_norm : (Meaning → Meaning) → (Meaning → Meaning) → Norm → Norm
-converted_norm to from n m v = to (n m (from v))
+use Rattle.sw_elem.specs.Converted.{converted_writes, converted_reads, converted_norm}
 
 -- those of `Q` are made of those of `P`, and lead back to them
 pub record IsConversion (P Q : Meaning → Type 0) (to from : Meaning → Meaning) : Type 0 where
