@@ -1,5 +1,5 @@
 -- Parts that are put in one after another make the list, or the map.
-use Rattle.std.proofs.Common.{◌≡◌, Bool, List, [], ◌∷◌, ◌++◌, map, false, Result, Ok, Err, refl, ap, sym, subst, ◌∙◌}
+use Rattle.std.proofs.Common.{◌≡◌, Bool, List, [], ◌∷◌, map, false, Result, Ok, Err, refl, ap, sym, subst, ◌∙◌}
 use Rattle.std.specs.Result.{IsErrAnd}
 use Rattle.sw_tree.specs.Building.{puts, within, with_put, IsBuilt, IsPut, BuildsLists}
 use Rattle.sw_tree.specs.Meaning.{Meaning, meanings, parts}

@@ -1,5 +1,5 @@
 -- The laws of a set, from those of the list of its items.
-use Rattle.std.specs.Prelude.{◌≡◌, map as list_map}
+use Rattle.std.specs.Prelude.{◌≡◌}
 use Rattle.std.proofs.Common.{refl, ap, ◌∙◌}
 use Rattle.sw_tree.specs.Meaning.{Meaning, list, meanings, parts}
 use Rattle.sw_tree.specs.Laws.Meaning.{meanings-parts}
@@ -17,7 +17,7 @@ use Rattle.sw_elem.specs.Statements.{Norm}
 use Rattle.sw_elem.specs.Lawful.{Lawful, same_norm}
 use Rattle.sw_core.specs.OrderedMap.{in_order}
 use Rattle.sw_core.specs.Set.{set_reads}
-use Rattle.sw_core.specs.Vec.{list_writes, list_reads, list_spot, list_skips, list_norm}
+use Rattle.sw_core.specs.Vec.{list_writes, list_spot, list_skips, list_norm}
 use Rattle.sw_core.specs.Laws.Each.{each_kept}
 use Rattle.sw_core.specs.Laws.OrderedMap.{ordered_lawful, ordered_keeps, IsFormOf}
 use Rattle.sw_core.specs.Laws.Vec.{list_lawful, list_keeps}
