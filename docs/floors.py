@@ -48,9 +48,11 @@ def imports_of_other_floors(path):
 def print_files():
     print("| File | Lines | What it says |\n|---|---|---|")
     for crate in CRATES:
-        for path in first_floor(crate):
+        first = first_floor(crate)
+        print(f"| **`{crate}`** | **{sum(map(lines, first))}** | **all of the crate** |")
+        for path in first:
             link = f"[{path.stem}](../{path.relative_to(ROOT)})"
-            print(f"| `{crate}` {link} | {lines(path)} | {sentence(path)} |")
+            print(f"| {link} | {lines(path)} | {sentence(path)} |")
 
 
 def main():
