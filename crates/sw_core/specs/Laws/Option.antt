@@ -20,7 +20,7 @@ use Rattle.sw_tree.specs.declared.fail.DeError.TheVariants as fail
 use Rattle.sw_check.specs.Form.{Form, option}
 use Rattle.sw_check.specs.Kinds.{kinds_written, kinds_read}
 use Rattle.sw_check.specs.Rules.{is_json_key}
-use Rattle.sw_check.specs.SoundForms.{sound-option}
+use Rattle.sw_check.specs.Laws.SoundForms.{sound-option}
 use Rattle.sw_elem.specs.Equations.{Writes, Reads, Spots, Skips, LawfulReading}
 use Rattle.sw_elem.specs.Statements.{Norm, HasImages, ReadsBack, NeverKey, IsUnmarked, IsExact, HasSpotKinds, HasNoteKinds, WritesNodes, NormsWithin}
 use Rattle.sw_elem.specs.Lawful.{Lawful}

@@ -11,7 +11,7 @@ use Rattle.sw_tree.specs.declared.mode.Mode.{Mode}
 use Rattle.sw_check.specs.Blame.{IsSound}
 use Rattle.sw_check.specs.Form.{Form, vec, set}
 use Rattle.sw_check.specs.Grade.{grade}
-use Rattle.sw_check.specs.SoundForms.{sound-set, set-vec, exact_is}
+use Rattle.sw_check.specs.Laws.SoundForms.{sound-set, set-vec, exact_is}
 use Rattle.sw_elem.specs.Equations.{Writes, Reads, Spots, Skips, LawfulReading}
 use Rattle.sw_elem.specs.Statements.{Norm}
 use Rattle.sw_elem.specs.Lawful.{Lawful, same_norm}
