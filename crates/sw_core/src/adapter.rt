@@ -79,7 +79,7 @@ pub trait DeserializeAs<T: Meant>: Sized {
         ensures logs { IsLogged result log.old (placed_notes (seen view.entry) (skips mode (tree_of view.entry))) log.new }
         ensures free { FREE ≡ true → ReadsFreely result };
 
-    ghost lawful: { LawfulReading T.is_meaning reads spot };
+    ghost lawful_reading: { LawfulReading T.is_meaning reads spot };
 }
 
 /// A nest whose values, once written, read back where its expression is sound.

@@ -51,7 +51,7 @@ impl<T: Meant, A: DeserializeAs<T>> DeserializeAs<Box<T>> for Box<A> {
         Ok(Box::new(alloc, value)?)
     }
 
-    ghost lawful = { A.lawful };
+    ghost lawful_reading = { A.lawful_reading };
 }
 
 /// A box means what it holds, so it is described as its part and keeps what that keeps.

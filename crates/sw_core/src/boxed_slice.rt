@@ -58,7 +58,7 @@ impl<T: Meant, A: DeserializeAs<T>> DeserializeAs<BoxedSlice<T>> for BoxedSlice<
         Ok(values.into_boxed_slice())
     }
 
-    ghost lawful = { list_lawful A.skips A.lawful };
+    ghost lawful_reading = { list_lawful A.skips A.lawful_reading };
 }
 
 /// It is as faithful as its parts: the norm of a list has its items' norms.

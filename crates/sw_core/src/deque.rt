@@ -58,7 +58,7 @@ impl<T: Meant, A: DeserializeAs<T>> DeserializeAs<VecDeque<T>> for VecDeque<A> {
         Ok(VecDeque::from_vec(values))
     }
 
-    ghost lawful = { list_lawful A.skips A.lawful };
+    ghost lawful_reading = { list_lawful A.skips A.lawful_reading };
 }
 
 /// It is as faithful as its parts: the norm of a list has its items' norms.

@@ -63,7 +63,7 @@ impl<T: TextForm> DeserializeAs<T> for DisplayFromStr {
         }
     }
 
-    ghost lawful = { display_lawful T.lawful };
+    ghost lawful_reading = { display_lawful T.lawful_text };
 }
 
 impl<T: TextForm> Adapter<T> for DisplayFromStr {
@@ -82,5 +82,5 @@ impl<T: TextForm> Adapter<T> for DisplayFromStr {
         Ok(Expr::leaf(text_facts()))
     }
 
-    ghost keeps = { display_keeps T.lawful };
+    ghost keeps = { display_keeps T.lawful_text };
 }

@@ -60,7 +60,7 @@ impl<T: Meant, A: DeserializeAs<T>> DeserializeAs<LinkedList<T>> for LinkedList<
         Ok(linked(alloc, values)?)
     }
 
-    ghost lawful = { list_lawful A.skips A.lawful };
+    ghost lawful_reading = { list_lawful A.skips A.lawful_reading };
 }
 
 /// It is as faithful as its parts: the norm of a list has its items' norms.

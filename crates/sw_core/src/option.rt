@@ -58,7 +58,7 @@ impl<T: Meant, A: DeserializeAs<T>> DeserializeAs<Option<T>> for Option<A> {
         Ok(Some(value))
     }
 
-    ghost lawful = { option_lawful A.lawful };
+    ghost lawful_reading = { option_lawful A.lawful_reading };
 }
 
 /// It is as faithful as its part, which writes no null where the option is sound.

@@ -71,7 +71,7 @@ impl<K: Keyed, V: Meant, KA: DeserializeAs<K> + Ord, VA: DeserializeAs<V>> Deser
         Ok(put_in_order(alloc, pairs)?)
     }
 
-    ghost lawful = { ordered_map_lawful K.order K.ranks KA.skips KA.lawful VA.skips VA.lawful };
+    ghost lawful_reading = { ordered_map_lawful K.order K.ranks KA.skips KA.lawful_reading VA.skips VA.lawful_reading };
 }
 
 /// It is as faithful as its values, where its keys are exact: else two keys might be read as one.

@@ -65,7 +65,7 @@ impl<T: Ranked, A: DeserializeAs<T> + Ord> DeserializeAs<BTreeSet<T>> for BTreeS
         Ok(put_in_order(alloc, values)?)
     }
 
-    ghost lawful = { set_lawful T.order T.ranks A.skips A.lawful };
+    ghost lawful_reading = { set_lawful T.order T.ranks A.skips A.lawful_reading };
 }
 
 /// It is faithful where its items are exact: else two of them might be read as one.

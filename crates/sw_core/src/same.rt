@@ -46,7 +46,7 @@ impl<T: Deserialize> DeserializeAs<T> for Same {
         T::deserialize(alloc, view, mode, log)
     }
 
-    ghost lawful = { T.lawful };
+    ghost lawful_reading = { T.lawful_reading };
 }
 
 impl<T: Element> Adapter<T> for Same {

@@ -56,7 +56,7 @@ impl<T: Meant, A: DeserializeAs<T>> DeserializeAs<Vec<T>> for Vec<A> {
         each::read_list::<T, A>(alloc, view, mode, log)
     }
 
-    ghost lawful = { list_lawful A.skips A.lawful };
+    ghost lawful_reading = { list_lawful A.skips A.lawful_reading };
 }
 
 /// It is as faithful as its parts: the norm of a list has its items' norms.

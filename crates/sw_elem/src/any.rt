@@ -115,7 +115,7 @@ impl Deserialize for Any {
         }
     }
 
-    ghost lawful = { any_lawful };
+    ghost lawful_reading = { any_lawful };
 }
 
 impl Element for Any {

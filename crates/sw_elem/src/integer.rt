@@ -118,7 +118,7 @@ impl<N: Integer> Deserialize for N {
         }
     }
 
-    ghost lawful = { number_lawful N.SIGNED N.fits N.is_meaning N.holds };
+    ghost lawful_reading = { number_lawful N.SIGNED N.fits N.is_meaning N.holds };
 }
 
 impl<N: Integer> Element for N {
@@ -174,5 +174,5 @@ impl<N: Integer> TextForm for N {
         classes::of_decimals(N::SIGNED)
     }
 
-    ghost lawful = { decimal_lawful N.SIGNED N.fits N.is_meaning N.holds };
+    ghost lawful_text = { decimal_lawful N.SIGNED N.fits N.is_meaning N.holds };
 }

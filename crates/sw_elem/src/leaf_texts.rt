@@ -53,7 +53,7 @@ impl TextForm for bool {
         classes::truth_letters()
     }
 
-    ghost lawful = { truth_lawful };
+    ghost lawful_text = { truth_lawful };
 }
 
 /// Exactly one character.
@@ -92,7 +92,7 @@ impl TextForm for char {
         classes::every_byte(true)
     }
 
-    ghost lawful = { character_lawful };
+    ghost lawful_text = { character_lawful };
 }
 
 /// Any text.
@@ -131,5 +131,5 @@ impl TextForm for String {
         classes::every_byte(false)
     }
 
-    ghost lawful = { text_lawful };
+    ghost lawful_text = { text_lawful };
 }

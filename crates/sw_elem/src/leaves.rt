@@ -55,7 +55,7 @@ impl Deserialize for bool {
         }
     }
 
-    ghost lawful = { truth_reading_lawful };
+    ghost lawful_reading = { truth_reading_lawful };
 }
 
 impl Element for bool {
@@ -117,7 +117,7 @@ impl Deserialize for char {
         }
     }
 
-    ghost lawful = { character_reading_lawful };
+    ghost lawful_reading = { character_reading_lawful };
 }
 
 impl Element for char {
@@ -178,7 +178,7 @@ impl Deserialize for String {
         }
     }
 
-    ghost lawful = { text_reading_lawful };
+    ghost lawful_reading = { text_reading_lawful };
 }
 
 impl Element for String {
@@ -236,7 +236,7 @@ impl Deserialize for () {
         }
     }
 
-    ghost lawful = { nothing_lawful };
+    ghost lawful_reading = { nothing_lawful };
 }
 
 impl Element for () {

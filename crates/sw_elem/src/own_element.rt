@@ -75,7 +75,7 @@ impl Deserialize for Port {
         }
     }
 
-    ghost lawful = { number_lawful _ (is_below (2 ^ 16)) (IsBelow (2 ^ 16)) (unsigned_integer (2 ^ 16) (lit≤ tt)) };
+    ghost lawful_reading = { number_lawful _ (is_below (2 ^ 16)) (IsBelow (2 ^ 16)) (unsigned_integer (2 ^ 16) (lit≤ tt)) };
 }
 
 impl Element for Port {

@@ -73,5 +73,5 @@ pub trait Deserialize: Meant + Sized {
         ensures logs { IsLogged result log.old (placed_notes (seen view.entry) (skips mode (tree_of view.entry))) log.new }
         ensures free { FREE ≡ true → ReadsFreely result };
 
-    ghost lawful: { LawfulReading Self.is_meaning reads spot };
+    ghost lawful_reading: { LawfulReading Self.is_meaning reads spot };
 }

@@ -60,5 +60,5 @@ pub trait TextForm: Meant {
     fn class() -> TextClass
         ensures { result ≡ class };
 
-    ghost lawful: { LawfulText Self.is_meaning shows parses class };
+    ghost lawful_text: { LawfulText Self.is_meaning shows parses class };
 }

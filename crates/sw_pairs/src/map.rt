@@ -66,7 +66,7 @@ impl<T: Meant, U: Meant, K: DeserializeAs<T>, V: DeserializeAs<U>> DeserializeAs
         entries::read_entries::<T, U, K, V>(alloc, view, mode, log)
     }
 
-    ghost lawful = { entries_lawful K.skips K.lawful V.skips V.lawful };
+    ghost lawful_reading = { entries_lawful K.skips K.lawful_reading V.skips V.lawful_reading };
 }
 
 /// It is as faithful as its keys and values: the norm of a map has its keys' and values' norms.

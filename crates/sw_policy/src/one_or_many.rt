@@ -77,7 +77,7 @@ impl<T: Meant, A: DeserializeAs<T>, F: Preference> DeserializeAs<Vec<T>> for One
         choose::<Vec<T>, (Alone<A>, Vec<A>)>(alloc, view, mode, log)
     }
 
-    ghost lawful = { one_or_many_lawful A.skips A.lawful };
+    ghost lawful_reading = { one_or_many_lawful A.skips A.lawful_reading };
 }
 
 /// It is as faithful as its part, buffered in value place: the norm of a list has its items' norms.
@@ -134,7 +134,7 @@ impl<T: Meant, A: DeserializeAs<T>> DeserializeAs<Vec<T>> for Alone<A> {
         }
     }
 
-    ghost lawful = { alone_lawful A.lawful };
+    ghost lawful_reading = { alone_lawful A.lawful_reading };
 }
 
 /// The list of that value alone.

@@ -62,7 +62,7 @@ impl<T: Meant, A: DeserializeAs<T>> DeserializeAs<T> for PickFirst<(A,)> {
         A::deserialize_as(alloc, view, mode, log)
     }
 
-    ghost lawful = { A.lawful };
+    ghost lawful_reading = { A.lawful_reading };
 }
 
 impl<T: Meant, A: SerializeAs<T>, B: SerializeAs<T>> SerializeAs<T> for PickFirst<(A, B)> {
@@ -104,7 +104,7 @@ impl<T: Meant, A: DeserializeAs<T>, B: DeserializeAs<T>> DeserializeAs<T> for Pi
         choose::<T, (A, B)>(alloc, view, mode, log)
     }
 
-    ghost lawful = { pick_two_lawful A.skips A.lawful B.skips B.lawful };
+    ghost lawful_reading = { pick_two_lawful A.skips A.lawful_reading B.skips B.lawful_reading };
 }
 
 impl<T: Meant, A: SerializeAs<T>, B: SerializeAs<T>, C: SerializeAs<T>> SerializeAs<T>
@@ -148,7 +148,7 @@ impl<T: Meant, A: DeserializeAs<T>, B: DeserializeAs<T>, C: DeserializeAs<T>> De
         choose::<T, (A, B, C)>(alloc, view, mode, log)
     }
 
-    ghost lawful = { pick_three_lawful A.skips A.lawful B.skips B.lawful C.skips C.lawful };
+    ghost lawful_reading = { pick_three_lawful A.skips A.lawful_reading B.skips B.lawful_reading C.skips C.lawful_reading };
 }
 
 impl<
@@ -202,7 +202,7 @@ impl<
         choose::<T, (A, B, C, D)>(alloc, view, mode, log)
     }
 
-    ghost lawful = { pick_four_lawful A.skips A.lawful B.skips B.lawful C.skips C.lawful D.skips D.lawful };
+    ghost lawful_reading = { pick_four_lawful A.skips A.lawful_reading B.skips B.lawful_reading C.skips C.lawful_reading D.skips D.lawful_reading };
 }
 
 /// The choice of one is as faithful as that option.
