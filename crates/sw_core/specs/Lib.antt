@@ -1,5 +1,6 @@
 pub mod Rows
 pub mod Plans
+pub mod Parts
 pub mod Vec
 pub mod Option
 pub mod Entries
