@@ -7,8 +7,9 @@ use Rattle.std.specs.Str.Parse.{IsNumeral, digits_value, without_leading_plus, w
 use Rattle.std.proofs.lemmas.Bool.Decides.{eqb_tells}
 use Rattle.std.proofs.lemmas.Int.{to_z-of_z, ints}
 use mir.Val.{to_z, of_z}
-use Rattle.std.proofs.lemmas.Str.Parse.{IsNumeralModel, numerals_by_fold, not_in_digits, without_leading_plus_none, digits_value_short}
-use Rattle.sw_tree.specs.Number.{is_digit, value_from, value_of, AreFew}
+use Rattle.std.proofs.lemmas.Str.Parse.{not_in_digits, without_leading_plus_none, digits_value_short}
+use Rattle.sw_tree.specs.Number.{AreFew}
+use Rattle.sw_tree.specs.Laws.Number.{digits_model, value_of-digits}
 use Rattle.sw_elem.specs.Integer.{IsWide}
 use Rattle.sw_elem.specs.Decimal.{is_numeral, decimal_value}
 use Rattle.sw_elem.specs.Inner.Decimal.{IsSpelled, IsSignedNumeral}
@@ -36,37 +37,29 @@ signed_none s h n e w = by (is_numeral (without_leading_sign s)) refl e w
         h ((is_numeral-decides (without_leading_sign s)).0 p, subst (FitsSigned w128) (sym same) w)
     by false p q w = absurd (cc)
 
--- ---- digits by the words of a number's spelling
-
--- those digits, as std names them
-spelled : IsNumeralModel (λ ds. list_all is_digit ds ≡ true) value_of
-unfolding is_digit
-spelled = numerals_by_fold (λ ds. list_all is_digit ds ≡ true) (search rules) value_from (search rules)
+-- ---- few digits
 
 eqb_false : (a b : ℕ) → ¬ (a ≡ b) → eqb a b ≡ false
 eqb_false a b h = elim (eqb_tells a b) [ inl y ↦ absurd (h y.1) | inr n ↦ n.0 ]
 
 few-numeral : (ds : List ℕ) → AreFew ds → IsNumeral 10 ds
-few-numeral ds h = (h.some, spelled.to ds h.digits)
-
-few-value : (ds : List ℕ) → AreFew ds → value_of ds ≡ digits_value 10 ds
-few-value ds h = spelled.same ds (spelled.to ds h.digits)
+few-numeral ds h = (h.some, digits_model.to ds h.digits)
 
 few-plain : (ds : List ℕ) → AreFew ds → without_leading_plus ds ≡ ds
-few-plain ds h = without_leading_plus_none ds (not_in_digits spelled ds 43 h.digits (λ r. omega arith) 0 h.some)
+few-plain ds h = without_leading_plus_none ds (not_in_digits digits_model ds 43 h.digits (λ r. omega arith) 0 h.some)
 
 few-not_minus : (ds : List ℕ) → AreFew ds → slice_index ds 0 ≡ 45 → ⊥
-few-not_minus ds h = not_in_digits spelled ds 45 h.digits (λ r. omega arith) 0 h.some
+few-not_minus ds h = not_in_digits digits_model ds 45 h.digits (λ r. omega arith) 0 h.some
 
-pub few-value_of : (n : ℕ) (s : List ℕ) → AreFew s → n ≡ value_of s → decimal_value false s ≡ Some (pos n)
-few-value_of n s h e =
+pub few-decimal : (n : ℕ) (s : List ℕ) → AreFew s → n ≡ digits_value 10 s → decimal_value false s ≡ Some (pos n)
+few-decimal n s h e =
     let plain = sym (few-plain s h) in
-    unsigned_value n s (subst (IsNumeral 10) plain (few-numeral s h)) (e ∙ few-value s h ∙ ap (digits_value 10) plain)
+    unsigned_value n s (subst (IsNumeral 10) plain (few-numeral s h)) (e ∙ ap (digits_value 10) plain)
 
 -- ---- the same behind a minus or not, as 128 bits hold it
 
-few-small : (ds : List ℕ) → AreFew ds → value_of ds < 10 ^ 19
-few-small ds h = digits_value_short spelled ds 19 h.digits h.few
+few-small : (ds : List ℕ) → AreFew ds → digits_value 10 ds < 10 ^ 19
+few-small ds h = subst (λ n. n < 10 ^ 19) (value_of-digits ds h.digits) (digits_value_short digits_model ds 19 h.digits h.few)
 
 fits_plain : (n : ℕ) → n < 10 ^ 19 → FitsSigned w128 (pos n)
 fits_plain n h = record { sfits = omega (arith, h) }
@@ -84,27 +77,27 @@ held z w e h = to_z-of_z w128 z (subst (FitsSigned w128) (sym e) h) ∙ e
 pub held-numeral : (s : List ℕ) (z : ℤ) → IsSignedNumeral s z → IsSignedNumeral s (to_z w128 (of_z w128 z))
 held-numeral s z h = subst (IsSignedNumeral s) (sym (held z z refl h.fits)) h
 
-plain-numeral : (s : List ℕ) (n : ℕ) → AreFew s → n ≡ value_of s → IsSignedNumeral s (pos n)
+plain-numeral : (s : List ℕ) (n : ℕ) → AreFew s → n ≡ digits_value 10 s → IsSignedNumeral s (pos n)
 plain-numeral s n h e =
     let no = eqb_false (slice_index s 0) 45 (few-not_minus s h) in
     let plain = sym (few-plain s h) in
     record {
       digits = rw no (subst (IsNumeral 10) plain (few-numeral s h));
-      value = rw no (ap pos (e ∙ few-value s h ∙ ap (digits_value 10) plain));
+      value = rw no (ap pos (e ∙ ap (digits_value 10) plain));
       fits = fits_plain n (rw e (few-small s h));
     }
 
-pub few-plain_signed : (s : List ℕ) (n : ℕ) (z : ℤ) → AreFew s → n ≡ value_of s → z ≡ pos n → IsSignedNumeral s (to_z w128 (of_z w128 z))
+pub few-plain_signed : (s : List ℕ) (n : ℕ) (z : ℤ) → AreFew s → n ≡ digits_value 10 s → z ≡ pos n → IsSignedNumeral s (to_z w128 (of_z w128 z))
 few-plain_signed s n z h e k = held-numeral s z (subst (IsSignedNumeral s) (sym k) (plain-numeral s n h e))
 
-negative-numeral : (ds : List ℕ) (n : ℕ) → AreFew ds → n ≡ value_of ds → IsSignedNumeral (45 ∷ ds) (neg_ℤ (pos n))
+negative-numeral : (ds : List ℕ) (n : ℕ) → AreFew ds → n ≡ digits_value 10 ds → IsSignedNumeral (45 ∷ ds) (neg_ℤ (pos n))
 negative-numeral ds n h e = record {
   digits = few-numeral ds h;
-  value = ap (λ m. neg_ℤ (pos m)) (e ∙ few-value ds h);
+  value = ap (λ m. neg_ℤ (pos m)) e;
   fits = fits_negative n (rw e (few-small ds h));
 }
 
-pub few-negative : (d : ℕ) (ds s : List ℕ) (n : ℕ) (z : ℤ) → s ≡ d ∷ ds → d ≡ 45 → AreFew ds → n ≡ value_of ds → z ≡ pos n → IsSignedNumeral s (to_z w128 (of_z w128 (pos 0 -ℤ to_z w128 (of_z w128 z))))
+pub few-negative : (d : ℕ) (ds s : List ℕ) (n : ℕ) (z : ℤ) → s ≡ d ∷ ds → d ≡ 45 → AreFew ds → n ≡ digits_value 10 ds → z ≡ pos n → IsSignedNumeral s (to_z w128 (of_z w128 (pos 0 -ℤ to_z w128 (of_z w128 z))))
 few-negative d ds s n z p q h e k =
     let own : IsSignedNumeral (45 ∷ ds) (neg_ℤ (pos n)) = negative-numeral ds n h e in
     let text : s ≡ 45 ∷ ds = p ∙ ap (λ b. b ∷ ds) q in

@@ -5,7 +5,9 @@ use Rattle.std.proofs.lemmas.Bool.{lt-ltb, le-leb}
 use Rattle.std.specs.Prelude.{neg_ℤ, ◌&&◌}
 use Rattle.std.specs.List.{list_all}
 use Rattle.sw_json.specs.Laws.Numbers.{leading_digit}
-use Rattle.sw_tree.specs.Number.{value_from, value_of, whole_of}
+use Rattle.std.specs.Str.Parse.{digits_value}
+use Rattle.sw_tree.specs.Number.{whole_of}
+use Rattle.sw_tree.specs.Laws.Number.{value_from, value_of, value_of-digits}
 use Rattle.sw_json.specs.Token.{Token}
 use Rattle.sw_json.specs.Bytes.{is_digit, is_leading, front, behind}
 use Rattle.sw_json.specs.Grammar.{IsNumber}
@@ -13,7 +15,7 @@ use Rattle.sw_json.specs.Inner.Short.{IsShortInt, IsShort}
 use Rattle.sw_json.specs.Laws.Fronts.{split, front_passes, and_right}
 use Rattle.sw_json.specs.Laws.Numbers.{leading_isnt_minus}
 use Rattle.sw_json.specs.Laws.Lexemes.{found}
-use Rattle.sw_json.proofs.WholeNumbers.{digits_value}
+use Rattle.sw_json.proofs.WholeNumbers.{plain_value}
 
 -- ---- the first digit
 
@@ -30,8 +32,8 @@ value_grows : (ds : List ℕ) (n : ℕ) → n ≤ value_from n ds
 value_grows [] n = omega arith
 value_grows (d ∷ ds) n = omega (arith, value_grows ds (n * 10 + (d - 48)))
 
-some_value : (d : ℕ) (ds : List ℕ) → is_leading d ≡ true → 0 < value_of (d ∷ ds)
-some_value d ds h = omega (arith, value_grows ds (0 * 10 + (d - 48)), leading_counts d h)
+some_value : (d : ℕ) (ds : List ℕ) → is_leading d ≡ true → list_all is_digit (d ∷ ds) ≡ true → 0 < digits_value 10 (d ∷ ds)
+some_value d ds h k = omega (arith, value_of-digits (d ∷ ds) k, value_grows ds (0 * 10 + (d - 48)), leading_counts d h)
 
 picked : (m l a : Bool) (p q : ℤ) → m ≡ false → l ≡ true → cond (cond m a l) (Some (cond m p q)) None ≡ Some q
 picked true l a p q h k = cc
@@ -43,15 +45,15 @@ both_picked true true p h k = refl
 both_picked true false p h k = cc
 both_picked false a p h k = cc
 
-whole_plain : (d : ℕ) (ds : List ℕ) → is_leading d ≡ true → value_of (d ∷ ds) < 2 ^ 128 → whole_of (d ∷ ds) ≡ Some (pos (value_of (d ∷ ds)))
+whole_plain : (d : ℕ) (ds : List ℕ) → is_leading d ≡ true → digits_value 10 (d ∷ ds) < 2 ^ 128 → whole_of (d ∷ ds) ≡ Some (pos (digits_value 10 (d ∷ ds)))
 whole_plain d ds h k =
-    picked (eqb d 45) (ltb (value_of (d ∷ ds)) (2 ^ 128)) (ltb 0 (value_of ds) && leb (value_of ds) (2 ^ 127)) (neg_ℤ (pos (value_of ds))) (pos (value_of (d ∷ ds)))
-    (leading_isnt_minus d h) (lt-ltb (value_of (d ∷ ds)) (2 ^ 128) k)
+    picked (eqb d 45) (ltb (digits_value 10 (d ∷ ds)) (2 ^ 128)) (ltb 0 (digits_value 10 ds) && leb (digits_value 10 ds) (2 ^ 127)) (neg_ℤ (pos (digits_value 10 ds))) (pos (digits_value 10 (d ∷ ds)))
+    (leading_isnt_minus d h) (lt-ltb (digits_value 10 (d ∷ ds)) (2 ^ 128) k)
 
-whole_negative : (d : ℕ) (ds : List ℕ) → is_leading d ≡ true → value_of (d ∷ ds) ≤ 2 ^ 127 → whole_of (45 ∷ d ∷ ds) ≡ Some (neg_ℤ (pos (value_of (d ∷ ds))))
-whole_negative d ds h k =
-    both_picked (ltb 0 (value_of (d ∷ ds))) (leb (value_of (d ∷ ds)) (2 ^ 127)) (neg_ℤ (pos (value_of (d ∷ ds))))
-    (lt-ltb 0 (value_of (d ∷ ds)) (some_value d ds h)) (le-leb (value_of (d ∷ ds)) (2 ^ 127) k)
+whole_negative : (d : ℕ) (ds : List ℕ) → is_leading d ≡ true → list_all is_digit (d ∷ ds) ≡ true → digits_value 10 (d ∷ ds) ≤ 2 ^ 127 → whole_of (45 ∷ d ∷ ds) ≡ Some (neg_ℤ (pos (digits_value 10 (d ∷ ds))))
+whole_negative d ds h a k =
+    both_picked (ltb 0 (digits_value 10 (d ∷ ds))) (leb (digits_value 10 (d ∷ ds)) (2 ^ 127)) (neg_ℤ (pos (digits_value 10 (d ∷ ds))))
+    (lt-ltb 0 (digits_value 10 (d ∷ ds)) (some_value d ds h a)) (le-leb (digits_value 10 (d ∷ ds)) (2 ^ 127) k)
 
 -- ---- the number
 
@@ -82,11 +84,14 @@ negative_number d ds h k = record {
 }
 
 module _ (bytes : List ℕ) (n : ℕ) (rest : List ℕ) (short : IsShortInt bytes n rest) where
-  all_digits : list_all is_digit short.more ≡ true
-  all_digits = and_right (is_digit short.first) (list_all is_digit short.more) (ap (list_all is_digit) (sym short.digits) ∙ front_passes is_digit bytes)
+  each_digit : list_all is_digit (short.first ∷ short.more) ≡ true
+  each_digit = ap (list_all is_digit) (sym short.digits) ∙ front_passes is_digit bytes
 
-  value_is : n ≡ value_of (short.first ∷ short.more)
-  value_is = short.value ∙ ap value_of short.digits
+  all_digits : list_all is_digit short.more ≡ true
+  all_digits = and_right (is_digit short.first) (list_all is_digit short.more) each_digit
+
+  value_is : n ≡ digits_value 10 (short.first ∷ short.more)
+  value_is = short.value ∙ ap value_of short.digits ∙ value_of-digits (short.first ∷ short.more) each_digit
 
   parts : bytes ≡ (short.first ∷ short.more) ++ rest
   parts = split is_digit bytes ∙ ap (λ (x : List ℕ). x ++ behind is_digit bytes) short.digits ∙ ap (λ (x : List ℕ). (short.first ∷ short.more) ++ x) (sym short.rest_is)
@@ -95,7 +100,7 @@ module _ (bytes : List ℕ) (n : ℕ) (rest : List ℕ) (short : IsShortInt byte
   short_plain = record {
     spelling = short.first ∷ short.more;
     found = λ at. found at bytes (Token.number at (short.first ∷ short.more)) rest (refl, plain_number short.first short.more short.leading all_digits, short.stops, parts);
-    value = digits_value (short.first ∷ short.more) (plain_number short.first short.more short.leading all_digits) refl
+    value = plain_value (short.first ∷ short.more) (plain_number short.first short.more short.leading all_digits) refl
         ∙ whole_plain short.first short.more short.leading (omega (arith, value_is, short.small)) ∙ ap (λ (x : ℕ). Some (pos x)) (sym value_is);
   }
 
@@ -105,6 +110,6 @@ module _ (bytes : List ℕ) (n : ℕ) (rest : List ℕ) (short : IsShortInt byte
       record {
         spelling = 45 ∷ short.first ∷ short.more;
         found = λ at. found at all (Token.number at (45 ∷ short.first ∷ short.more)) rest (refl, negative_number short.first short.more short.leading all_digits, short.stops, whole);
-        value = digits_value (45 ∷ short.first ∷ short.more) (negative_number short.first short.more short.leading all_digits) refl
-            ∙ whole_negative short.first short.more short.leading (omega (arith, value_is, short.small)) ∙ ap (λ (x : ℕ). Some (neg_ℤ (pos x))) (sym value_is);
+        value = plain_value (45 ∷ short.first ∷ short.more) (negative_number short.first short.more short.leading all_digits) refl
+            ∙ whole_negative short.first short.more short.leading each_digit (omega (arith, value_is, short.small)) ∙ ap (λ (x : ℕ). Some (neg_ℤ (pos x))) (sym value_is);
       }

@@ -41,8 +41,8 @@ number_is g s (inl e) h = ap (λ x. number.is_number (x ++ s)) e ∙ unsigned_is
 number_is g s (inr e) h = ap (λ x. number.is_number (x ++ s)) e ∙ int_is s h
 
 -- Without a fraction and an exponent its value is that of its digits.
-pub digits_value : (s : List ℕ) (n : IsNumber s) → n.fraction ++ n.exponent ≡ [] → key_number s ≡ whole_of s
-digits_value s n h =
+pub plain_value : (s : List ℕ) (n : IsNumber s) → n.fraction ++ n.exponent ≡ [] → key_number s ≡ whole_of s
+plain_value s n h =
     let parts : s ≡ n.sign ++ n.int = n.parts ∙ ap (λ x. n.sign ++ (n.int ++ x)) h ∙ ap (λ x. n.sign ++ x) (append-nil n.int) in
     if_true (number.is_number s) (whole_of s) None (ap number.is_number parts ∙ number_is n.sign n.int n.is_sign n.is_int)
 

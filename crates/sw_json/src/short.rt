@@ -2,7 +2,7 @@
 
 ghost use Rattle.std.specs.Prelude.{◌≡◌, ◌<◌, IfSome};
 ghost use Rattle.std.specs.Bool.{OnTrue};
-ghost use Rattle.sw_tree.specs.Number.{value_of};
+ghost use Rattle.sw_tree.specs.Laws.Number.{value_of};
 ghost use Rattle.sw_json.specs.Bytes as tests;
 ghost use Rattle.sw_json.specs.Bytes.{front, behind, Stops};
 ghost use Rattle.sw_json.specs.Inner.Short.{IsShortInt, IsShort};

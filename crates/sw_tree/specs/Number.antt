@@ -1,10 +1,12 @@
 -- The whole number that a text spells (RFC 8259, section 6).
-use Rattle.std.specs.Prelude.{ℕ, Bool, ◌&&◌, nat_le, List, [], ◌∷◌, true, false, ◌==◌, if◌then◌else◌, ◌+◌, ◌-◌, ◌*◌, ℤ, pos, neg_ℤ, ◌^◌, nat_lt, Option, Some, None, ◌≡◌, ◌<◌, ◌≤◌, length, negsuc}
+use Rattle.std.specs.Prelude.{ℕ, Bool, ◌&&◌, nat_le, List, [], ◌∷◌, true, false, ◌==◌, if◌then◌else◌, ℤ, pos, neg_ℤ, ◌^◌, nat_lt, Option, Some, None, ◌≡◌, ◌<◌, ◌≤◌, length, negsuc}
+use Rattle.std.specs.Char.{is_ascii_digit}
 use Rattle.std.specs.List.{list_all}
+use Rattle.std.specs.Str.Parse.{digits_value}
 
 -- DIGIT
 unfoldable pub is_digit : ℕ → Bool
-is_digit b = nat_le 48 b && nat_le b 57
+is_digit b = is_ascii_digit b
 
 -- digit1-9
 unfoldable pub is_leading : ℕ → Bool
@@ -24,23 +26,15 @@ abbrev pub is_number : List ℕ → Bool
 is_number [] = false
 is_number (b ∷ bs) = if b == 45 then is_int bs else is_int (b ∷ bs)
 
--- digits behind a number, in base ten
-abbrev pub value_from : ℕ → List ℕ → ℕ
-value_from n [] = n
-value_from n (d ∷ ds) = value_from (n * 10 + (d - 48)) ds
-
-abbrev pub value_of : List ℕ → ℕ
-value_of ds = value_from 0 ds
-
 -- the integer of digits with a minus before them or not
 abbrev pub int_of : List ℕ → ℤ
 int_of [] = pos 0
-int_of (b ∷ bs) = if b == 45 then neg_ℤ (pos (value_of bs)) else pos (value_of (b ∷ bs))
+int_of (b ∷ bs) = if b == 45 then neg_ℤ (pos (digits_value 10 bs)) else pos (digits_value 10 (b ∷ bs))
 
 -- it isn't minus zero, and from -2^127 to 2^128 - 1
 abbrev pub is_whole : List ℕ → Bool
 is_whole [] = false
-is_whole (b ∷ bs) = if b == 45 then nat_lt 0 (value_of bs) && nat_le (value_of bs) (2 ^ 127) else nat_lt (value_of (b ∷ bs)) (2 ^ 128)
+is_whole (b ∷ bs) = if b == 45 then nat_lt 0 (digits_value 10 bs) && nat_le (digits_value 10 bs) (2 ^ 127) else nat_lt (digits_value 10 (b ∷ bs)) (2 ^ 128)
 
 -- that integer, where it is one
 abbrev pub whole_of : List ℕ → Option ℤ

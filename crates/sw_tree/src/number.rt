@@ -3,7 +3,9 @@
 ghost use Rattle.std.specs.Prelude.{◌≡◌, ◌∷◌, IfOk, SomeIff, string_bytes};
 ghost use Rattle.std.specs.Fmt.{signed_decimal};
 ghost use Rattle.sw_tree.specs.Number as number;
-ghost use Rattle.sw_tree.specs.Number.{value_of, AreFew};
+ghost use Rattle.std.specs.Str.Parse.{digits_value};
+ghost use Rattle.sw_tree.specs.Number.{AreFew};
+ghost use Rattle.sw_tree.specs.Laws.Number.{value_of};
 ghost use Rattle.sw_tree.specs.Inner.Number.{AreWide, IsWideInt};
 
 use crate::whole::Whole;
@@ -22,8 +24,15 @@ fn is_digit(byte: u8) -> bool
 
 /// The value of one to 19 decimal digits: `None` exactly where there are none or more, or where
 /// a byte is no digit. Leading zeros count as digits.
-#[tactic(auto, unfolding(crate::specs::Number::is_digit))]
 pub fn short_value(digits: &[u8]) -> Option<u64>
+    ensures { SomeIff result (AreFew digits.now) (digits_value 10 digits.now) }
+{
+    few_value(digits)
+}
+
+/// The value of one to 19 decimal digits, as `short_value` answers it.
+#[tactic(auto, unfolding(crate::specs::Number::is_digit))]
+fn few_value(digits: &[u8]) -> Option<u64>
     ensures { SomeIff result (AreFew digits.now) (value_of digits.now) }
 {
     if digits.is_empty() || digits.len() > SHORT {
@@ -60,7 +69,7 @@ fn wide_value(digits: &[u8]) -> Option<u128>
 fn value(digits: &[u8]) -> Option<u128>
     ensures { SomeIff result (AreWide digits.now) (value_of digits.now) }
 {
-    match short_value(digits) {
+    match few_value(digits) {
         Some(short) => Some(u128::from(short)),
         None => wide_value(digits),
     }
@@ -68,7 +77,7 @@ fn value(digits: &[u8]) -> Option<u128>
 
 /// The value of zero, or of digits of which the first isn't zero, where it is below 2^128.
 fn int_value(int: &[u8]) -> Option<u128>
-    ensures { SomeIff result (IsWideInt int.now) (value_of int.now) }
+    ensures { SomeIff result (IsWideInt int.now) (digits_value 10 int.now) }
 {
     let (first, rest) = int.split_first()?;
     if *first != b'0' {

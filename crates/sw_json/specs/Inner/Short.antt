@@ -1,6 +1,7 @@
 -- A short whole number in front of bytes.
 use Rattle.std.specs.Prelude.{◌≡◌, ℕ, ◌<◌, List, ◌∷◌, true, ℤ, Some}
-use Rattle.sw_tree.specs.Number.{value_of, key_number}
+use Rattle.sw_tree.specs.Number.{key_number}
+use Rattle.sw_tree.specs.Laws.Number.{value_of}
 use Rattle.sw_json.specs.Token.{Token}
 use Rattle.sw_json.specs.Bytes.{is_digit, is_leading, is_number_byte, front, behind, Stops}
 use Rattle.sw_json.specs.Lexing.{lexeme}

@@ -1,13 +1,34 @@
--- The decimal text of a number spells that number.
+-- The decimal text of a number spells that number; and the value of digits, one after another.
 use Rattle.std.specs.Prelude.{◌≡◌, ℕ, ◌≤◌, true, ◌<◌, false, ◌+◌, ◌&&◌, ◌-◌, ◌*◌, List, [], ◌∷◌, ◌++◌, Bool, ◌/◌, ◌%◌, ◌^◌, pos, Some, suc, negsuc, zero, ℤ, None, if◌then◌else◌}
 use Rattle.std.specs.List.{list_all}
 use Rattle.std.specs.Fmt.{decimal, signed_decimal}
-use Rattle.std.proofs.Common.{arith, inl, inr, leb, ltb, eqb, refl, ap}
+use Rattle.std.specs.Str.Parse.{digits_value}
+use Rattle.std.proofs.Common.{arith, inl, inr, leb, ltb, eqb, refl, ap, sym, rules, ◌∙◌}
 use Rattle.std.proofs.lemmas.Bool.Decides.{leb_tells, Decides-ltb, eqb_tells}
 use Rattle.std.proofs.lemmas.List.Folds.{list_all-append}
 use Rattle.std.proofs.lemmas.Fmt.{decimal_by_steps_wide, decimal_digit}
 use Rattle.std.proofs.lemmas.Bool.{and_parts}
-use Rattle.sw_tree.specs.Number.{is_digit, is_leading, value_from, value_of, is_int, key_number, IsInRange, is_number, is_whole, int_of}
+use Rattle.std.proofs.lemmas.Str.Parse.{IsNumeralModel, numerals_by_fold}
+use Rattle.sw_tree.specs.Number.{is_digit, is_leading, is_int, key_number, IsInRange, is_number, is_whole, int_of}
+
+-- digits behind a number, in base ten
+abbrev pub value_from : ℕ → List ℕ → ℕ
+value_from n [] = n
+value_from n (d ∷ ds) = value_from (n * 10 + (d - 48)) ds
+
+abbrev pub value_of : List ℕ → ℕ
+value_of ds = value_from 0 ds
+
+abbrev pub AreDigits : List ℕ → Type 0
+AreDigits ds = list_all is_digit ds ≡ true
+
+-- that is their value
+pub digits_model : IsNumeralModel AreDigits value_of
+unfolding is_digit
+digits_model = numerals_by_fold AreDigits (search rules) value_from (search rules)
+
+pub value_of-digits : (ds : List ℕ) → AreDigits ds → value_of ds ≡ digits_value 10 ds
+value_of-digits ds h = digits_model.same ds (digits_model.to ds h)
 
 leb_yes : (a b : ℕ) → a ≤ b → leb a b ≡ true
 leb_yes a b h = elim (leb_tells a b) [ inl y ↦ y.0 | inr n ↦ absurd (omega (arith, h, n.1)) ]
@@ -69,11 +90,11 @@ int_from_leading [] h k = absurd (cc)
 int_from_leading (d ∷ ds) h k = rw (eqb_no d 48 (λ e. omega (arith, e, above_zero d h)), h, (and_parts (is_digit d) (list_all is_digit ds) k).1) refl
 
 -- digits before which no minus stands
-unsigned : (ds : List ℕ) (n : ℕ) → leads ds ≡ true → is_int ds ≡ true → value_of ds ≡ n → n < 2 ^ 128 → key_number ds ≡ Some (pos n)
+unsigned : (ds : List ℕ) (n : ℕ) → leads ds ≡ true → is_int ds ≡ true → digits_value 10 ds ≡ n → n < 2 ^ 128 → key_number ds ≡ Some (pos n)
 unsigned [] n l i v h = absurd (cc)
 unsigned (d ∷ ds) n l i v h = rw (eqb_no d 45 (λ e. omega (arith, e, above_zero d l)), i, v, ltb_yes n (2 ^ 128) h) refl
 
-negative : (ds : List ℕ) (n : ℕ) → is_int ds ≡ true → value_of ds ≡ suc n → n < 2 ^ 127 → key_number (45 ∷ ds) ≡ Some (negsuc n)
+pub negative : (ds : List ℕ) (n : ℕ) → is_int ds ≡ true → digits_value 10 ds ≡ suc n → n < 2 ^ 127 → key_number (45 ∷ ds) ≡ Some (negsuc n)
 negative ds n i v h = rw (i, v, ltb_yes 0 (suc n) (omega arith), leb_yes (suc n) (2 ^ 127) (omega arith)) refl
 
 natural : (n : ℕ) → n < 2 ^ 128 → key_number (decimal n) ≡ Some (pos n)
@@ -81,14 +102,14 @@ natural zero h = ap key_number (decimal_digit 0 (omega arith))
 natural (suc n) h =
     let s = decimal_spells (suc n) (omega arith) in
     let l = s.leading (omega arith) in
-    unsigned (decimal (suc n)) (suc n) l (int_from_leading _ l s.digits) s.value h
+    unsigned (decimal (suc n)) (suc n) l (int_from_leading _ l s.digits) (sym (value_of-digits (decimal (suc n)) s.digits) ∙ s.value) h
 
 pub key_number-signed_decimal : (z : ℤ) → IsInRange z → key_number (signed_decimal z) ≡ Some z
 key_number-signed_decimal (pos n) h = natural n h
 key_number-signed_decimal (negsuc n) h =
     let s = decimal_spells (suc n) (omega arith) in
     let l = s.leading (omega arith) in
-    negative (decimal (suc n)) n (int_from_leading _ l s.digits) s.value h
+    negative (decimal (suc n)) n (int_from_leading _ l s.digits) (sym (value_of-digits (decimal (suc n)) s.digits) ∙ s.value) h
 
 -- a text that spells the number, with no fraction and no exponent
 pub record IsTextOf (z : ℤ) (s : List ℕ) : Type 0 where

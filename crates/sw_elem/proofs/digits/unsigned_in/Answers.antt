@@ -1,12 +1,12 @@
 use Rattle.std.proofs.Common.{◌∙◌, ap, sym, arith, Some}
 use Rattle.sw_elem.specs.Laws.Decimal.{unsigned_value}
-use Rattle.sw_elem.proofs.Decimal.{few-value_of, unsigned_none}
+use Rattle.sw_elem.proofs.Decimal.{few-decimal, unsigned_none}
 use Rattle.sw_elem.proofs.digits.unsigned_in.Goals as goal
 
 pub returns-in-Some : goal.returns-in-Some
 returns-in-Some c =
     let h = rw c.as_bytes.ensures.value at c.in-Some.ensures in
-    few-value_of c.from.result c.args.text.now h.0 (c.from.ensures ∙ h.1) ∙ ap Some (sym c.from_u128.ensures)
+    few-decimal c.from.result c.args.text.now h.0 (c.from.ensures ∙ h.1) ∙ ap Some (sym c.from_u128.ensures)
 
 pub returns-in-Ok : goal.returns-in-Ok
 returns-in-Ok c =

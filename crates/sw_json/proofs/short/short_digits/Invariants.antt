@@ -1,5 +1,5 @@
 use Rattle.std.proofs.Common.{◌≡◌, ◌<◌, drop}
-use Rattle.sw_tree.specs.Number.{value_from, value_of}
+use Rattle.sw_tree.specs.Laws.Number.{value_from, value_of}
 use Rattle.sw_json.specs.Bytes.{is_digit, front, behind}
 use Rattle.sw_json.proofs.short.short_digits.Given as goal
 

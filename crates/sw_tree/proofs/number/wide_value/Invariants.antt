@@ -1,6 +1,7 @@
 use Rattle.std.proofs.Common.{◌≡◌, ◌<◌, ◌^◌, drop}
 use Rattle.std.specs.List.{list_all}
-use Rattle.sw_tree.specs.Number.{is_digit, value_from, value_of}
+use Rattle.sw_tree.specs.Number.{is_digit}
+use Rattle.sw_tree.specs.Laws.Number.{value_from, value_of}
 use Rattle.sw_tree.proofs.number.wide_value.Given as goal
 
 abbrev pub invariant-loop-digit : goal.invariant-loop-digit
