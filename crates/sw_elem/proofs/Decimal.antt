@@ -1,7 +1,6 @@
 -- What std's parse of a whole number says, in the words of a text form.
 use Rattle.std.specs.Prelude.{ℕ, zero, suc, ◌-ℤ◌, ◌<◌, ◌^◌, ◌≡◌, ℤ, List, ◌∷◌, Bool, true, false, if◌then◌else◌, Some, None, FitsSigned, pos, neg_ℤ, slice_index}
-use Rattle.std.proofs.Common.{refl, sym, subst, arith, ap, ◌∙◌, rules, eqb, inl, inr}
-use Rattle.std.specs.List.{list_all}
+use Rattle.std.proofs.Common.{refl, sym, subst, arith, ap, ◌∙◌, eqb, inl, inr}
 use Rattle.std.specs.Int.{w128}
 use Rattle.std.specs.Str.Parse.{IsNumeral, digits_value, without_leading_plus, without_leading_sign, signed_digits_value}
 use Rattle.std.proofs.lemmas.Bool.Decides.{eqb_tells}
