@@ -20,6 +20,7 @@ pub mod recode;
 pub mod same;
 pub mod token;
 pub mod vec;
+pub mod wrap;
 
 pub use adapter::{Adapter, DeserializeAs, SerializeAs};
 pub use as_::As;
