@@ -41,7 +41,7 @@ use Rattle.sw_check.specs.declared.grade.Grade.{Grade}
 use Rattle.sw_elem.specs.Equations.{Writes, LawfulReading}
 use Rattle.sw_elem.specs.Lawful.{Lawful}
 use Rattle.sw_elem.specs.Statements.{HasImages, ReadsBack, NeverKey, IsUnmarked, IsExact, HasSpotKinds, HasNoteKinds, WritesNodes, NormsWithin}
-use Rattle.sw_core.specs.Fields.{Field, Slots, no_slots, collect, fields_make}
+use Rattle.sw_core.specs.Fields.{Field, Slots, no_slots, collect, fields_make, IsFieldPut}
 use Rattle.sw_core.specs.Laws.Fields.{names_of, is_new, are_names, first_name, new_behind, same_name}
 use Rattle.sw_core.specs.Laws.Images.{entry_image, map-image}
 use Rattle.sw_core.specs.Laws.Parts.{HasKinds, HasNotes, AreReadings, IsInside, reading_kinds, reading_notes, all_inside, all_in-count, Part, IsPart, EachPart, are_of, writes_of, bys_of, exprs_of, norms_of, All, parts_sound, parts_keep, parts_read, parts_back, parts_exact, row_nodes, row_normed, IsImaged, IsReadBack, IsNeverKey, IsKept, row_imaged, row_back, row_count, row_never, row_exact, row_same}
@@ -399,6 +399,36 @@ named_nodes (s ∷ ss) (t ∷ ts) d h =
     let c = first_name s ss d in
     let name : IsNodeTree (node.text s) = record { proper = IsUtf8-from_is_utf8 s c.0; shallow = omega arith } in
     ((name, h.0), named_nodes ss ts c.2 h.1)
+
+-- ---- a record that is written field by field
+
+-- the fields are put in one after another
+abbrev pub ArePut : {S : Type 0} → (Tree → S → S) → Mode → List (List ℕ) → List Writes → List Meaning → S → S → Type 0
+ArePut put m [] [] [] s now = s ≡ now
+ArePut {S} put m (n ∷ ns) (w ∷ ws) (v ∷ vs) s now = (next : S) × IsFieldPut put n (Ok tt) (w m v) s next × ArePut put m ns ws vs next now
+ArePut put m _ _ _ s now = ⊥
+
+all_put : {S : Type 0} (put : Tree → S → S) (m : Mode) (ns : List (List ℕ)) (ws : List Writes) (vs : List Meaning) (s now : S) → ArePut put m ns ws vs s now →
+    (ts : List Tree) × (row_writes ws m vs ≡ Ok ts) × (now ≡ puts put (by_turns (named ns ts)) s)
+all_put put m [] [] [] s now h = ([], refl, sym h)
+all_put put m (n ∷ ns) (w ∷ ws) (v ∷ vs) s now h =
+    let c = all_put put m ns ws vs h.0 now h.2 in
+    let t : Tree = h.1.0 in
+    (t ∷ c.0, rw (h.1.1, c.1) refl, c.2 ∙ ap (puts put (by_turns (named ns c.0))) h.1.2)
+all_put put m [] [] (v ∷ vs) s now h = absurd h
+all_put put m [] (w ∷ ws) vs s now h = absurd h
+all_put put m (n ∷ ns) [] vs s now h = absurd h
+all_put put m (n ∷ ns) (w ∷ ws) [] s now h = absurd h
+
+-- once the map is closed, the record is put in
+pub record_put : {S : Type 0} (put : Tree → S → S) (opened : Bool → S → S) (closed : S → Result S SerError) → BuildsMaps put opened closed → (ns : List (List ℕ)) (ws : List Writes) (m : Mode) (vs : List Meaning) (old s now new : S)
+    (x : Result (Unit {0}) SerFail) → ◌≡◌ {A = Result S SerError} (Ok (opened true old)) (Ok s) → ArePut put (at_value m) ns ws vs s now → IsBuilt x (closed now) new → IsPut put x (record_writes ns ws m (row vs)) old new
+record_put {S} put opened closed maps ns ws m vs old s now new x i h k =
+    let same : opened true old ≡ s = cc in
+    let c = all_put put (at_value m) ns ws vs s now h in
+    rw (parts-meanings vs, c.1) (subst (λ (r : Result S SerError). IsBuilt x r new) (ap closed (c.2 ∙ ap (puts put (by_turns (named ns c.0))) (sym same)) ∙ maps old (named ns c.0)) k)
+
+-- ---- all of them
 
 sound-fields : (ps : Forms) (listed : Bool) (own : Grade) (m : Mode) → IsSound (fields ps listed own) m → (is_json_key m.wire m.place ≡ false) × AllSound ps (at_value m)
 sound-fields ps listed own m s = (sound-no_key (fields ps listed own) m s refl, sound-checked (fields ps listed own) m s)
