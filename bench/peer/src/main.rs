@@ -9,15 +9,21 @@ const STORED: &str = include_str!("../../../crates/sw_examples/stdout");
 
 const WHOLE: &str = "no floats are carried, and whole numbers have up to 128 bits";
 const EVERY: &str = "every entry is kept, in order";
+const RECORD: &str = "a record is a map alone";
 
 /// The rows that differ from serde by design, each with its reason.
-const DIFFERENT: [(&str, &str, &str); 6] = [
+const DIFFERENT: [(&str, &str, &str); 7] = [
     ("Same of Any", r#" {"a":1,"b":[null,{}],"a":-2} "#, EVERY),
     ("Same of Any", "340282366920938463463374607431768211455", WHOLE),
     ("Same of Any", "340282366920938463463374607431768211456", WHOLE),
     ("Same of Any", "-170141183460469231731687303715884105728", WHOLE),
     ("Same of Any", "[1,-0]", WHOLE),
     ("Same of Any", "[1e2]", WHOLE),
+    (
+        "PersonAs<Same, Same, Vec<DisplayFromStr>> of Person",
+        r#"["Ann",41,[]]"#,
+        RECORD,
+    ),
 ];
 
 /// Whether the answer is a JSON text; else it says why there is none.

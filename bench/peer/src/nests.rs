@@ -25,6 +25,24 @@ type ByChoice = Pairs<Choice<Same<u32>, Same<u32>>, Same<bool>>;
 type ByList = Pairs<Vec<Same<u32>>, Same<u32>>;
 type ByOneOrMany = Pairs<PreferMany<Shown<u32>>, Same<u32>>;
 
+/// A record of a user's own.
+#[derive(serde::Serialize, serde::Deserialize)]
+struct Person {
+    name: Same<String>,
+    age: Same<u8>,
+    #[serde(default)]
+    tags: Vec<Shown<u32>>,
+}
+
+impl Holds<Person> for Person {
+    fn of(value: Person) -> Self {
+        value
+    }
+    fn value(self) -> Person {
+        self
+    }
+}
+
 pub fn answer(nest: &str, text: &str) -> Option<String> {
     match nest {
         "Same of u8" => again::<Same<u8>, u8>(text),
@@ -115,6 +133,7 @@ pub fn answer(nest: &str, text: &str) -> Option<String> {
         "PickFirst<(Vec<Vec<Same>>, OneOrMany<Vec<Same>, PreferOne>)>, written by Vec<Vec<Same>>, of Vec<Vec<u8>>" => {
             apart::<Choice<Many, One>, Many, Lists>(text)
         }
+        "PersonAs<Same, Same, Vec<DisplayFromStr>> of Person" => again::<Person, Person>(text),
         _ => panic!("no nest {nest}"),
     }
 }

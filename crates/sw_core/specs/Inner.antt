@@ -3,3 +3,4 @@ pub mod Rows
 pub mod Iterated
 pub mod Putting
 pub mod Printing
+pub mod Record

@@ -9,6 +9,8 @@ pub mod Images
 pub mod Vec
 pub mod Option
 pub mod Entries
+pub mod Fields
+pub mod Record
 pub mod OrderedMap
 pub mod Set
 pub mod Display

@@ -7,6 +7,8 @@ mod containers;
 mod keys;
 mod maps;
 mod names;
+mod person;
+mod records;
 mod stored;
 mod told;
 
@@ -45,6 +47,8 @@ fn asked(alloc: Global, nest: &str, text: Option<&str>) -> Answer {
     } else if let Some(answer) = keys::asked(alloc, nest, text) {
         answer
     } else if let Some(answer) = choices::asked(alloc, nest, text) {
+        answer
+    } else if let Some(answer) = records::asked(alloc, nest, text) {
         answer
     } else {
         Answer::NoSuchNest
