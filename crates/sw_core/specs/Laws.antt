@@ -3,6 +3,7 @@ pub mod Nodes
 pub mod Rows
 pub mod Plans
 pub mod Parts
+pub mod Tagged
 pub mod Each
 pub mod Within
 pub mod Images

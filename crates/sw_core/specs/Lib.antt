@@ -1,6 +1,7 @@
 pub mod Rows
 pub mod Plans
 pub mod Parts
+pub mod Tagged
 pub mod Vec
 pub mod Option
 pub mod Entries
