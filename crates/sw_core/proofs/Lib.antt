@@ -3,6 +3,7 @@ pub mod Rows
 pub mod Places
 pub mod Children
 pub mod Putting
+pub mod InTurn
 pub mod InOrder
 pub mod Recoding
 pub mod Again

@@ -2,4 +2,5 @@
 pub mod Rows
 pub mod Iterated
 pub mod Putting
+pub mod Parts
 pub mod Printing

@@ -7,6 +7,8 @@ pub mod Each
 pub mod Within
 pub mod Images
 pub mod Vec
+pub mod Tuple
+pub mod Array
 pub mod Option
 pub mod Entries
 pub mod OrderedMap

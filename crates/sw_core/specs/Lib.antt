@@ -2,6 +2,8 @@ pub mod Rows
 pub mod Plans
 pub mod Parts
 pub mod Vec
+pub mod Tuple
+pub mod Array
 pub mod Option
 pub mod Entries
 pub mod OrderedMap

@@ -2,6 +2,7 @@
 #![tactic(auto)]
 
 pub mod adapter;
+pub mod array;
 pub mod as_;
 pub mod boxed;
 pub mod boxed_slice;
@@ -16,9 +17,11 @@ pub mod linked;
 pub mod option;
 pub mod ordered_map;
 pub mod ordered_set;
+mod parts;
 pub mod recode;
 pub mod same;
 pub mod token;
+pub mod tuple;
 pub mod vec;
 
 pub use adapter::{Adapter, DeserializeAs, SerializeAs};
