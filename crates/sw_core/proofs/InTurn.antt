@@ -1,6 +1,6 @@
 -- A tuple that is read part by part, each at its place, and written part by part.
-use Rattle.std.proofs.Common.{◌≡◌, ℕ, Bool, true, false, cond, List, [], ◌∷◌, length, ◌==◌, Option, Some, None, option_map, Result, Ok, Err, refl, ap, sym, ◌∙◌, subst}
-use Rattle.std.proofs.Math.Dec.{eqb-suc-suc}
+use Rattle.std.proofs.Common.{◌≡◌, ℕ, suc, Bool, true, false, cond, List, [], ◌∷◌, length, ◌==◌, Option, Some, None, option_map, Result, Ok, Err, refl, ap, sym, ◌∙◌, subst}
+use Rattle.std.proofs.Math.Dec.{eqb-suc-suc, eqb-suc-zero, eqb-zero-suc}
 use Rattle.std.specs.Result.{IsErrAnd}
 use Rattle.sw_tree.specs.Building.{puts, within, with_put, IsBuilt, IsPut, BuildsLists}
 use Rattle.sw_tree.specs.Laws.Meaning.{parts-meanings}
@@ -44,8 +44,8 @@ next_seen (Ok v) (Ok vs) false z i = rw i refl
 
 row_seen-is : (rs : List (Reader Meaning)) (ss : List Seen) → row_seen rs ss ≡ bind (seen_reads rs ss) (λ vs. Ok (whole (length ss == length rs) vs))
 row_seen-is [] [] = refl
-row_seen-is [] (s ∷ ss) = refl
-row_seen-is (r ∷ rs) [] = refl
+row_seen-is [] (s ∷ ss) = rw (eqb-suc-zero (length ss)) refl
+row_seen-is (r ∷ rs) [] = rw (eqb-zero-suc (length rs)) refl
 row_seen-is (r ∷ rs) (s ∷ ss) =
     rw (eqb-suc-suc (length ss) (length rs)) (next_seen (placed r.reads r.spot s) (seen_reads rs ss) (length ss == length rs) (row_seen rs ss) (row_seen-is rs ss))
 
