@@ -4,6 +4,8 @@ pub mod Places
 pub mod Children
 pub mod Keyed
 pub mod Putting
+pub mod InTurn
+pub mod Filling
 pub mod InOrder
 pub mod Recoding
 pub mod Again

@@ -23,11 +23,11 @@ values : {T : Type 0} (w : Meaning → Result Tree SerError) (f : T → Meaning)
 values w f [] = refl
 values w f (x ∷ xs) = rw (values w f xs) refl
 
-not_put : {S : Type 0} (put : Tree → S → S) (s old : S) (x : Result (List Tree) SerError) (e : SerError) → bind x (λ ts. Ok (puts put ts s)) ≡ Err e → with_put put (bind x (λ ts. within (list (trees ts)))) old ≡ Err e
+pub not_put : {S : Type 0} (put : Tree → S → S) (s old : S) (x : Result (List Tree) SerError) (e : SerError) → bind x (λ ts. Ok (puts put ts s)) ≡ Err e → with_put put (bind x (λ ts. within (list (trees ts)))) old ≡ Err e
 not_put put s old (Ok ts) e h = absurd (cc)
 not_put put s old (Err d) e h = let same : d ≡ e = cc in ap (λ (z : SerError). Err z) same
 
-closed_on : {S : Type 0} (put : Tree → S → S) (closed : S → Result S SerError) (s old now : S) (x : Result (List Tree) SerError) → ((ts : List Tree) → closed (puts put ts s) ≡ with_put put (within (list (trees ts))) old) →
+pub closed_on : {S : Type 0} (put : Tree → S → S) (closed : S → Result S SerError) (s old now : S) (x : Result (List Tree) SerError) → ((ts : List Tree) → closed (puts put ts s) ≡ with_put put (within (list (trees ts))) old) →
     bind x (λ ts. Ok (puts put ts s)) ≡ Ok now → closed now ≡ with_put put (bind x (λ ts. within (list (trees ts)))) old
 closed_on put closed s old now (Ok ts) lists h = let same : puts put ts s ≡ now = cc in ap closed (sym same) ∙ lists ts
 closed_on put closed s old now (Err d) lists h = absurd (cc)

@@ -2,5 +2,6 @@
 pub mod Rows
 pub mod Iterated
 pub mod Putting
+pub mod Parts
 pub mod Printing
 pub mod Record

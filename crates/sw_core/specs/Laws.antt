@@ -8,6 +8,8 @@ pub mod Each
 pub mod Within
 pub mod Images
 pub mod Vec
+pub mod Tuple
+pub mod Array
 pub mod Option
 pub mod Entries
 pub mod Fields

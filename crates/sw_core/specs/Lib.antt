@@ -3,6 +3,8 @@ pub mod Plans
 pub mod Parts
 pub mod Tagged
 pub mod Vec
+pub mod Tuple
+pub mod Array
 pub mod Option
 pub mod Entries
 pub mod Fields

@@ -2,6 +2,7 @@
 #![tactic(auto)]
 
 pub mod adapter;
+pub mod array;
 pub mod as_;
 pub mod boxed;
 pub mod boxed_slice;
@@ -17,10 +18,12 @@ pub mod linked;
 pub mod option;
 pub mod ordered_map;
 pub mod ordered_set;
+mod parts;
 pub mod recode;
 pub mod record;
 pub mod same;
 pub mod token;
+pub mod tuple;
 pub mod vec;
 pub mod wrap;
 

@@ -26,3 +26,18 @@ fn a_number_alone_is_read_without_memory(rt: HostRuntime) {
     assert!(rt; <Option<Same> as DeserializeAs<Option<u8>>>::FREE);
     assert!(rt; !<Option<Same> as DeserializeAs<Option<String>>>::FREE);
 }
+
+#[test]
+fn a_tuple_is_free_where_all_parts_are(rt: HostRuntime) {
+    assert!(rt; <(Same,) as DeserializeAs<(u8,)>>::FREE);
+    assert!(rt; <(Same, DisplayFromStr, Same) as DeserializeAs<(u8, u16, char)>>::FREE);
+    assert!(rt; !<(Same, Same) as DeserializeAs<(u8, String)>>::FREE);
+    assert!(rt; !<(Vec<Same>, Same) as DeserializeAs<(Vec<u8>, u8)>>::FREE);
+}
+
+#[test]
+fn an_array_is_free_where_its_part_is(rt: HostRuntime) {
+    assert!(rt; <[Same; 3] as DeserializeAs<[u8; 3]>>::FREE);
+    assert!(rt; <[[Same; 2]; 3] as DeserializeAs<[[u8; 2]; 3]>>::FREE);
+    assert!(rt; <[(Same, Same); 3] as DeserializeAs<[(u8, u8); 3]>>::FREE);
+}
