@@ -1,5 +1,5 @@
 -- A value of one of two variants: a map of one entry, whose key names the variant; or of a third, which has no value and is its name alone.
-use Rattle.std.specs.Prelude.{ℕ, zero, suc, List, [], ◌∷◌, length, cond, Option, Some, None, Result, Ok, Err}
+use Rattle.std.specs.Prelude.{ℕ, zero, suc, List, [], ◌∷◌, length, cond, Option, Some, None, Result, Ok, Err, codes}
 use Rattle.std.specs.Str.{bytes_eq}
 use Rattle.sw_tree.specs.Building.{within}
 use Rattle.sw_tree.specs.Meaning.{Meaning, nothing, case}
@@ -18,6 +18,8 @@ use Rattle.sw_elem.specs.Strings.{nothing_reads}
 use Rattle.sw_core.specs.Parts.{Reading, reading, in_mode}
 use Rattle.sw_core.specs.Plans.{Plan, Plans, refused, plan_reads, plan_spot, plan_skips}
 use Rattle.sw_core.specs.Rows.{Reader}
+use Rattle.sw_core.specs.declared.tagged.Variant.{Variant}
+use Rattle.sw_core.specs.declared.tagged.Variant.TheVariants.{First, Second, Alone, Unknown}
 
 -- the names of the variants
 pub record Names : Type 0 where
@@ -27,18 +29,12 @@ pub record Names : Type 0 where
   pub alone : Option (List ℕ)
 
 -- which variant a text names
-pub data Variant : Type 0 where
-  first : Variant
-  second : Variant
-  alone : Variant
-  unknown : Variant
-
 abbrev pub alone_of : Option (List ℕ) → List ℕ → Variant
-alone_of None s = unknown
-alone_of (Some a) s = cond (bytes_eq s a) alone unknown
+alone_of None s = Unknown
+alone_of (Some a) s = cond (bytes_eq s a) Alone Unknown
 
 abbrev pub variant_of : Names → List ℕ → Variant
-variant_of n s = cond (bytes_eq s n.first) first (cond (bytes_eq s n.second) second (alone_of n.alone s))
+variant_of n s = cond (bytes_eq s n.first) First (cond (bytes_eq s n.second) Second (alone_of n.alone s))
 
 -- ---- reading
 
@@ -62,10 +58,10 @@ untagged e = record { readers = no_tag e ∷ []; makes = λ vs. Err fail.Unknown
 
 -- the value is read in value place; that of the variant without one is null
 abbrev pub variant_plan : Reading → Reading → Mode → Variant → Plan Meaning
-variant_plan x y m first = case_plan 0 (at_value m) x
-variant_plan x y m second = case_plan 1 (at_value m) y
-variant_plan x y m alone = case_plan 2 (at_value m) (reading nothing_reads own_spot no_skips)
-variant_plan x y m unknown = untagged fail.UnknownVariant
+variant_plan x y m First = case_plan 0 (at_value m) x
+variant_plan x y m Second = case_plan 1 (at_value m) y
+variant_plan x y m Alone = case_plan 2 (at_value m) (reading nothing_reads own_spot no_skips)
+variant_plan x y m Unknown = untagged fail.UnknownVariant
 
 abbrev pub key_plan : Names → Reading → Reading → Mode → Tree → Plan Meaning
 key_plan n x y m (node.text s) = variant_plan x y m (variant_of n s)
@@ -78,10 +74,10 @@ entry_plan n x y m es = refused (fail.InvalidLength (length (pairs es)))
 
 -- a text by itself
 abbrev pub text_makes : Variant → Result Meaning DeError
-text_makes first = Err (fail.InvalidType kind.Text)
-text_makes second = Err (fail.InvalidType kind.Text)
-text_makes alone = Ok (case 2 nothing)
-text_makes unknown = Err fail.UnknownVariant
+text_makes First = Err (fail.InvalidType kind.Text)
+text_makes Second = Err (fail.InvalidType kind.Text)
+text_makes Alone = Ok (case 2 nothing)
+text_makes Unknown = Err fail.UnknownVariant
 
 abbrev pub tagged_plan : Names → Reading → Reading → Plans Meaning
 tagged_plan n x y m (node.map es) = entry_plan n x y m es
@@ -121,3 +117,11 @@ abbrev pub tagged_norm : Norm → Norm → Norm
 tagged_norm n l m (case zero v) = case 0 (n (at_value m) v)
 tagged_norm n l m (case (suc zero) v) = case 1 (l (at_value m) v)
 tagged_norm n l m v = v
+
+-- ---- results, and the ends of ranges
+
+abbrev pub result_names : Names
+result_names = record { first = codes "Ok"; second = codes "Err"; alone = None }
+
+abbrev pub bound_names : Names
+bound_names = record { first = codes "Included"; second = codes "Excluded"; alone = Some (codes "Unbounded") }

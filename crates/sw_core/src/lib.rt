@@ -22,6 +22,7 @@ mod parts;
 pub mod recode;
 pub mod record;
 pub mod same;
+mod tagged;
 pub mod token;
 pub mod tuple;
 pub mod vec;

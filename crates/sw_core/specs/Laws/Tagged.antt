@@ -1,5 +1,5 @@
 -- The laws of a value of one of two variants, or of a third without a value, from those of the values.
-use Rattle.std.specs.Prelude.{◌≡◌, ◌≤◌, ℕ, zero, suc, List, [], ◌∷◌, Bool, true, false, ◌||◌, ◌&&◌, cond, is_some, Option, Some, None, option_map, Result, Ok, Err}
+use Rattle.std.specs.Prelude.{◌≡◌, ◌≤◌, ℕ, zero, suc, List, [], ◌∷◌, Bool, true, false, ◌||◌, ◌&&◌, cond, is_some, Option, Some, None, option_map, Result, Ok, Err, codes}
 use Rattle.std.specs.Str.{bytes_eq, is_utf8}
 use Rattle.std.proofs.lemmas.Str.{IsUtf8-from_is_utf8}
 use Rattle.std.proofs.Common.{refl, ap, sym, subst, ◌∙◌, arith}
@@ -7,7 +7,7 @@ use Rattle.sw_tree.specs.Building.{within}
 use Rattle.sw_tree.specs.Image.{image, next_entry}
 use Rattle.sw_tree.specs.Kinds.{is_kind}
 use Rattle.sw_tree.specs.Meaning.{Meaning, nothing, case}
-use Rattle.sw_tree.specs.Meant.{IsNothing}
+use Rattle.sw_tree.specs.Meant.{IsNothing, IsResultOf, IsBoundOf}
 use Rattle.sw_tree.specs.Mode.{at_value, marked}
 use Rattle.sw_tree.specs.Nodes.{kinds, IsNoteIn}
 use Rattle.sw_tree.specs.Placed.{Note}
@@ -41,11 +41,14 @@ use Rattle.sw_elem.specs.Laws.TextLeaf.{nothing_keeps}
 use Rattle.sw_core.specs.Parts.{Reading, reading, in_mode}
 use Rattle.sw_core.specs.Plans.{children, plan_reads, plan_spot, plan_skips}
 use Rattle.sw_core.specs.Rows.{Reader}
-use Rattle.sw_core.specs.Tagged.{Names, Variant, first, second, alone, unknown, variant_of, alone_of, tag, no_tag, untagged, case_makes, variant_plan, key_plan, entry_plan, text_makes, tagged_plan, tagged_reads, tagged_spot, tagged_skips, entry_of, case_writes, alone_writes, tagged_writes, tagged_norm}
+use Rattle.sw_core.specs.Tagged.{Names, variant_of, alone_of, tag, no_tag, untagged, case_makes, variant_plan, key_plan, entry_plan, text_makes, tagged_plan, tagged_reads, tagged_spot, tagged_skips, entry_of, case_writes, alone_writes, tagged_writes, tagged_norm, result_names, bound_names}
+use Rattle.sw_core.specs.declared.tagged.Variant.{Variant}
+use Rattle.sw_core.specs.declared.tagged.Variant.TheVariants.{First, Second, Alone, Unknown}
 use Rattle.sw_core.specs.Laws.Parts.{IsReading, HasKinds, HasNotes, reading_below, reading_kinds, reading_notes}
 use Rattle.sw_core.specs.Laws.Plans.{RefusesItself, plan_lawful, plan_spot_kinds, plan_note_kinds}
 use Rattle.sw_core.specs.Laws.Images.{image-elsewhere}
 use Rattle.sw_core.specs.Laws.Rows.{AreRead, EachAt, Refuses, Notes}
+use Rattle.sw_core.specs.Laws.Tuple.{same_reading, same_keeps}
 use Rattle.sw_core.specs.Laws.Within.{within_ok, within_shallow, within_key}
 
 -- such a case; the third one is there where it has a name
@@ -61,10 +64,10 @@ IsTagged n P Q _ = ⊥
 
 -- each name tells its variant, and is a text
 pub record AreNames (n : Names) : Type 0 where
-  pub one : variant_of n n.first ≡ first
-  pub two : variant_of n n.second ≡ second
+  pub one : variant_of n n.first ≡ First
+  pub two : variant_of n n.second ≡ Second
   pub texts : (is_utf8 n.first ≡ true) × (is_utf8 n.second ≡ true)
-  pub three : (s : List ℕ) → n.alone ≡ Some s → (variant_of n s ≡ alone) × (is_utf8 s ≡ true)
+  pub three : (s : List ℕ) → n.alone ≡ Some s → (variant_of n s ≡ Alone) × (is_utf8 s ≡ true)
 
 -- ---- reading
 
@@ -74,10 +77,10 @@ null_reading = reading nothing_reads own_spot no_skips
 module _ (R : Reader Meaning → Tree → Type 0) (tags : (t : Tree) → R tag t) (refuses : (t : Tree) (e : DeError) → IsOwn t e → R (no_tag e) t) (x y : Reading) (m : Mode)
     (one : (t : Tree) → R (in_mode (at_value m) x) t) (two : (t : Tree) → R (in_mode (at_value m) y) t) (null : (t : Tree) → R (in_mode (at_value m) null_reading) t) where
   variant_at : (v : Variant) (k t : Tree) → EachAt R (variant_plan x y m v).readers (k ∷ t ∷ [])
-  variant_at first k t = (tags k, (one t, tt))
-  variant_at second k t = (tags k, (two t, tt))
-  variant_at alone k t = (tags k, (null t, tt))
-  variant_at unknown k t = (refuses k fail.UnknownVariant (λ j i. absurd (cc)), tt)
+  variant_at First k t = (tags k, (one t, tt))
+  variant_at Second k t = (tags k, (two t, tt))
+  variant_at Alone k t = (tags k, (null t, tt))
+  variant_at Unknown k t = (refuses k fail.UnknownVariant (λ j i. absurd (cc)), tt)
 
   own_at : (n : Names) (k t : Tree) → (j : Kind) → kind_of k ≡ j → EachAt R (untagged (fail.InvalidType j)).readers (k ∷ t ∷ [])
   own_at n k t j e = (refuses k (fail.InvalidType j) (λ i p. let q : j ≡ i = cc in e ∙ q), tt)
@@ -109,18 +112,18 @@ case_own i (k ∷ []) t e p = λ j q. absurd (cc)
 case_own i (k ∷ v ∷ w ∷ vs) t e p = λ j q. absurd (cc)
 
 variant_own : (x y : Reading) (m : Mode) (v : Variant) (vs : List Meaning) (t : Tree) (e : DeError) → (variant_plan x y m v).makes vs ≡ Err e → IsOwn t e
-variant_own x y m first vs t e p = case_own 0 vs t e p
-variant_own x y m second vs t e p = case_own 1 vs t e p
-variant_own x y m alone vs t e p = case_own 2 vs t e p
-variant_own x y m unknown vs t e p = λ j q. absurd (cc)
+variant_own x y m First vs t e p = case_own 0 vs t e p
+variant_own x y m Second vs t e p = case_own 1 vs t e p
+variant_own x y m Alone vs t e p = case_own 2 vs t e p
+variant_own x y m Unknown vs t e p = λ j q. absurd (cc)
 
 text_own : (v : Variant) (s : List ℕ) (e : DeError) → text_makes v ≡ Err e → IsOwn (node.text s) e
-text_own first s e p = λ j q. cc
-text_own second s e p = λ j q. cc
-text_own alone s e p = absurd (cc)
-text_own unknown s e p = λ j q. absurd (cc)
+text_own First s e p = λ j q. cc
+text_own Second s e p = λ j q. cc
+text_own Alone s e p = absurd (cc)
+text_own Unknown s e p = λ j q. absurd (cc)
 
-chosen : (b c : Bool) (o : Variant) → cond b first (cond c second o) ≡ alone → o ≡ alone
+chosen : (b c : Bool) (o : Variant) → cond b First (cond c Second o) ≡ Alone → o ≡ Alone
 chosen true c o e = absurd (cc)
 chosen false true o e = absurd (cc)
 chosen false false o e = e
@@ -156,25 +159,25 @@ module _ (n : Names) (x y : Reading) where
     case_is S i r k t (a ∷ []) v h g p = absurd g.1
     case_is S i r k t (a ∷ u ∷ w ∷ vs) v h g p = absurd g.1.1
 
-    alone_named : (o : Option (List ℕ)) (s : List ℕ) → alone_of o s ≡ alone → (u : Meaning) → IsNothing u → IsAlone o u
+    alone_named : (o : Option (List ℕ)) (s : List ℕ) → alone_of o s ≡ Alone → (u : Meaning) → IsNothing u → IsAlone o u
     alone_named (Some a) s e nothing h = tt
     alone_named (Some a) s e _ h = absurd h
     alone_named None s e u h = absurd (cc)
 
-    alone_is : (s : List ℕ) → variant_of n s ≡ alone → (u : Meaning) → IsNothing u → Is (case 2 u)
+    alone_is : (s : List ℕ) → variant_of n s ≡ Alone → (u : Meaning) → IsNothing u → Is (case 2 u)
     alone_is s e u h = alone_named n.alone s (chosen (bytes_eq s n.first) (bytes_eq s n.second) (alone_of n.alone s) e) u h
 
     variant_is : (m : Mode) (s : List ℕ) (w : Variant) (k t : Tree) (vs : List Meaning) (v : Meaning) → variant_of n s ≡ w → IsNodeTree t → AreRead (variant_plan x y m w).readers (k ∷ t ∷ []) vs → (variant_plan x y m w).makes vs ≡ Ok v → Is v
-    variant_is m s first k t vs v e g h p = case_is Is 0 (in_mode (at_value m) x) k t vs v (λ u q. one.meanings (at_value m) t u g q) h p
-    variant_is m s second k t vs v e g h p = case_is Is 1 (in_mode (at_value m) y) k t vs v (λ u q. two.meanings (at_value m) t u g q) h p
-    variant_is m s alone k t vs v e g h p = case_is Is 2 (in_mode (at_value m) null_reading) k t vs v (λ u q. alone_is s e u (nothing_lawful.meanings (at_value m) t u g q)) h p
-    variant_is m s unknown k t vs v e g h p = absurd (cc)
+    variant_is m s First k t vs v e g h p = case_is Is 0 (in_mode (at_value m) x) k t vs v (λ u q. one.meanings (at_value m) t u g q) h p
+    variant_is m s Second k t vs v e g h p = case_is Is 1 (in_mode (at_value m) y) k t vs v (λ u q. two.meanings (at_value m) t u g q) h p
+    variant_is m s Alone k t vs v e g h p = case_is Is 2 (in_mode (at_value m) null_reading) k t vs v (λ u q. alone_is s e u (nothing_lawful.meanings (at_value m) t u g q)) h p
+    variant_is m s Unknown k t vs v e g h p = absurd (cc)
 
     text_is : (s : List ℕ) (w : Variant) (v : Meaning) → variant_of n s ≡ w → text_makes w ≡ Ok v → Is v
-    text_is s first v e p = absurd (cc)
-    text_is s second v e p = absurd (cc)
-    text_is s alone v e p = let q : case 2 nothing ≡ v = cc in subst Is q (alone_is s e nothing tt)
-    text_is s unknown v e p = absurd (cc)
+    text_is s First v e p = absurd (cc)
+    text_is s Second v e p = absurd (cc)
+    text_is s Alone v e p = let q : case 2 nothing ≡ v = cc in subst Is q (alone_is s e nothing tt)
+    text_is s Unknown v e p = absurd (cc)
 
     key_is : (m : Mode) (k t : Tree) (vs : List Meaning) (v : Meaning) → IsNodeTree t → AreRead (key_plan n x y m k).readers (k ∷ t ∷ []) vs → (key_plan n x y m k).makes vs ≡ Ok v → Is v
     key_is m (node.text s) t vs v g h p = variant_is m s (variant_of n s) (node.text s) t vs v refl g h p
@@ -361,14 +364,14 @@ module _ (n : Names) (names : AreNames n) where
   read_kind x y m (node.text s) v p = named (variant_of n s) refl p
     where
       named : (u : Variant) → variant_of n s ≡ u → text_makes u ≡ Ok v → (false || (is_some n.alone && true)) ≡ true
-      named first e p = absurd (cc)
-      named second e p = absurd (cc)
-      named alone e p = there n.alone (chosen (bytes_eq s n.first) (bytes_eq s n.second) (alone_of n.alone s) e)
+      named First e p = absurd (cc)
+      named Second e p = absurd (cc)
+      named Alone e p = there n.alone (chosen (bytes_eq s n.first) (bytes_eq s n.second) (alone_of n.alone s) e)
         where
-          there : (o : Option (List ℕ)) → alone_of o s ≡ alone → (false || (is_some o && true)) ≡ true
+          there : (o : Option (List ℕ)) → alone_of o s ≡ Alone → (false || (is_some o && true)) ≡ true
           there (Some a) e = refl
           there None e = absurd (cc)
-      named unknown e p = absurd (cc)
+      named Unknown e p = absurd (cc)
   read_kind x y m node.null v p = absurd (cc)
   read_kind x y m (node.truth b) v p = absurd (cc)
   read_kind x y m (node.int i) v p = absurd (cc)
@@ -404,3 +407,63 @@ module _ (n : Names) (names : AreNames n) where
           nodes = nodes P Q w z one.nodes two.nodes;
           norms = norms P Q l k one.norms two.norms;
         }
+
+-- ---- results, and the ends of ranges
+
+result-names : AreNames result_names
+result-names = record { one = refl; two = refl; texts = (refl, refl); three = λ s e. absurd (cc) }
+
+abbrev is_bound : List ℕ → Type 0
+is_bound s = (variant_of bound_names s ≡ Alone) × (is_utf8 s ≡ true)
+
+bound-names : AreNames bound_names
+bound-names = record { one = refl; two = refl; texts = (refl, refl); three = λ s e. let own : is_bound (codes "Unbounded") = (refl, refl) in let same : codes "Unbounded" ≡ s = cc in subst is_bound same own }
+
+module _ (P Q : Meaning → Type 0) where
+  tagged-result : (v : Meaning) → IsTagged result_names P Q v → IsResultOf P Q v
+  tagged-result (case zero v) h = h
+  tagged-result (case (suc zero) v) h = h
+  tagged-result (case (suc (suc zero)) v) h = absurd h
+  tagged-result (case (suc (suc (suc i))) v) h = absurd h
+  tagged-result _ h = absurd h
+
+  result-tagged : (v : Meaning) → IsResultOf P Q v → IsTagged result_names P Q v
+  result-tagged (case zero v) h = h
+  result-tagged (case (suc zero) v) h = h
+  result-tagged (case (suc (suc i)) v) h = absurd h
+  result-tagged _ h = absurd h
+
+module _ (P : Meaning → Type 0) where
+  tagged-bound : (v : Meaning) → IsTagged bound_names P P v → IsBoundOf P v
+  tagged-bound (case zero v) h = h
+  tagged-bound (case (suc zero) v) h = h
+  tagged-bound (case (suc (suc zero)) nothing) h = h
+  tagged-bound (case (suc (suc zero)) v) h = absurd h
+  tagged-bound (case (suc (suc (suc i))) v) h = absurd h
+  tagged-bound _ h = absurd h
+
+  bound-tagged : (v : Meaning) → IsBoundOf P v → IsTagged bound_names P P v
+  bound-tagged (case zero v) h = h
+  bound-tagged (case (suc zero) v) h = h
+  bound-tagged (case (suc (suc zero)) nothing) h = h
+  bound-tagged (case (suc (suc zero)) v) h = absurd h
+  bound-tagged (case (suc (suc (suc i))) v) h = absurd h
+  bound-tagged _ h = absurd h
+
+module _ {P Q : Meaning → Type 0} {r q : Reads} {s d : Spots} (j : Skips) (one : LawfulReading P r s) (i : Skips) (two : LawfulReading Q q d) where
+  pub result_lawful : LawfulReading (IsResultOf P Q) (tagged_reads result_names (reading r s j) (reading q d i)) (tagged_spot result_names (reading r s j) (reading q d i))
+  result_lawful = same_reading (IsTagged result_names P Q) (IsResultOf P Q) (tagged-result P Q) (tagged_lawful result_names (reading r s j) (reading q d i) one two)
+
+module _ {P : Meaning → Type 0} {r : Reads} {s : Spots} (j : Skips) (one : LawfulReading P r s) where
+  pub bound_lawful : LawfulReading (IsBoundOf P) (tagged_reads bound_names (reading r s j) (reading r s j)) (tagged_spot bound_names (reading r s j) (reading r s j))
+  bound_lawful = same_reading (IsTagged bound_names P P) (IsBoundOf P) (tagged-bound P) (tagged_lawful bound_names (reading r s j) (reading r s j) one one)
+
+module _ {P Q : Meaning → Type 0} {w z : Writes} {r q : Reads} {s d : Spots} {j i : Skips} {e f : Form} {l k : Norm} {a b : Type 0} (one : Lawful P w r s j e l a) (two : Lawful Q z q d i f k b) where
+  pub result_keeps : Lawful (IsResultOf P Q) (tagged_writes result_names w z) (tagged_reads result_names (reading r s j) (reading q d i)) (tagged_spot result_names (reading r s j) (reading q d i))
+      (tagged_skips result_names (reading r s j) (reading q d i)) (tagged (form e (form f no_forms)) false) (tagged_norm l k) (a × b)
+  result_keeps = same_keeps (IsTagged result_names P Q) (IsResultOf P Q) (tagged-result P Q) (result-tagged P Q) (tagged_keeps result_names result-names one two)
+
+module _ {P : Meaning → Type 0} {w : Writes} {r : Reads} {s : Spots} {j : Skips} {e : Form} {l : Norm} {a : Type 0} (one : Lawful P w r s j e l a) where
+  pub bound_keeps : Lawful (IsBoundOf P) (tagged_writes bound_names w w) (tagged_reads bound_names (reading r s j) (reading r s j)) (tagged_spot bound_names (reading r s j) (reading r s j))
+      (tagged_skips bound_names (reading r s j) (reading r s j)) (tagged (form e (form e no_forms)) true) (tagged_norm l l) (a × a)
+  bound_keeps = same_keeps (IsTagged bound_names P P) (IsBoundOf P) (tagged-bound P) (bound-tagged P) (tagged_keeps bound_names bound-names one one)

@@ -231,7 +231,7 @@ module _ (P Q : Meaning → Type 0) (to : (v : Meaning) → P v → Q v) where
   same_reading h = record { meanings = λ m t v n p. to v (h.meanings m t v n p); inside = h.inside }
 
   module _ (from : (v : Meaning) → Q v → P v) where
-    same_keeps : {w : Writes} {r : Reads} {s : Spots} {k : Skips} {e : Form} {n : Norm} {a : Type 0} → Lawful P w r s k e n a → Lawful Q w r s k e n a
+    pub same_keeps : {w : Writes} {r : Reads} {s : Spots} {k : Skips} {e : Form} {n : Norm} {a : Type 0} → Lawful P w r s k e n a → Lawful Q w r s k e n a
     same_keeps {n = n} h =
         record {
           images = λ m s v t q p. h.images m s v t (from v q) p;
