@@ -13,6 +13,7 @@ use crate::digits::whole_in;
 use crate::element::Element;
 use crate::numbers::whole_at;
 use crate::refuse::refusal_at;
+use crate::sealed::Sealed;
 use crate::serialize::{Deserialize, Serialize};
 use crate::text::{ParseFail, TextForm};
 use crate::{classes, facts};
@@ -29,7 +30,7 @@ use sw_tree::view::View;
 use sw_tree::whole::Whole;
 
 /// A type whose values are the whole numbers of a range. The twelve of std are such types; no other crate adds one.
-pub trait Integer: Meant + Copy {
+pub trait Integer: Meant + Copy + Sealed {
     ghost use Rattle.std.specs.Prelude.{◌≡◌, ℤ, Bool};
     ghost use Rattle.sw_tree.specs.Meaning.{number};
     ghost use Rattle.sw_elem.specs.Text.{IsParsedFreely};
