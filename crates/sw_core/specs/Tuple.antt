@@ -1,7 +1,7 @@
 -- A tuple: a list of as many items as it has parts, each read and written in value place by an adapter of its own.
 use Rattle.std.specs.Prelude.{ℕ, List, [], ◌∷◌, length, ◌==◌, cond, Result, Ok, Err}
 use Rattle.sw_tree.specs.Building.{within}
-use Rattle.sw_tree.specs.Meaning.{Meaning, list, meanings, parts}
+use Rattle.sw_tree.specs.Meaning.{Meaning, list, parts}
 use Rattle.sw_tree.specs.Meant.{row}
 use Rattle.sw_tree.specs.Mode.{at_value}
 use Rattle.sw_tree.specs.Steps.{bind}
