@@ -2,7 +2,7 @@
 use Rattle.std.proofs.Common.{◌≡◌, ℕ, suc, Bool, true, false, cond, List, [], ◌∷◌, length, ◌==◌, Option, Some, None, option_map, Result, Ok, Err, refl, ap, sym, ◌∙◌, subst}
 use Rattle.std.proofs.Math.Dec.{eqb-suc-suc, eqb-suc-zero, eqb-zero-suc}
 use Rattle.std.specs.Result.{IsErrAnd}
-use Rattle.sw_tree.specs.Building.{puts, within, with_put, IsBuilt, IsPut, BuildsLists}
+use Rattle.sw_tree.specs.Building.{puts, with_put, IsBuilt, IsPut, BuildsLists}
 use Rattle.sw_tree.specs.Laws.Meaning.{parts-meanings}
 use Rattle.sw_tree.specs.Meaning.{Meaning}
 use Rattle.sw_tree.specs.Meant.{row}
@@ -14,7 +14,6 @@ use Rattle.sw_tree.specs.Steps.{bind}
 use Rattle.sw_tree.specs.Tree.{Tree, trees, list, items, len_of}
 use Rattle.sw_tree.specs.Tree as node
 use Rattle.sw_tree.specs.declared.mode.Mode.{Mode}
-use Rattle.sw_tree.specs.declared.fail.DeError.{DeError}
 use Rattle.sw_tree.specs.declared.fail.DeError.TheVariants as fail
 use Rattle.sw_tree.specs.declared.fail.Refusal.{Refusal}
 use Rattle.sw_tree.specs.declared.fail.SerError.{SerError}

@@ -1,7 +1,7 @@
 -- A tuple: a list of as many items as it has parts, each read and written in value place by an adapter of its own.
-use Rattle.std.specs.Prelude.{ℕ, List, length, ◌==◌, cond, Result, Ok, Err}
+use Rattle.std.specs.Prelude.{ℕ, List, [], ◌∷◌, length, ◌==◌, cond, Result, Ok, Err}
 use Rattle.sw_tree.specs.Building.{within}
-use Rattle.sw_tree.specs.Meaning.{Meaning, list, meanings, parts}
+use Rattle.sw_tree.specs.Meaning.{Meaning, list, parts}
 use Rattle.sw_tree.specs.Meant.{row}
 use Rattle.sw_tree.specs.Mode.{at_value}
 use Rattle.sw_tree.specs.Steps.{bind}
@@ -41,3 +41,8 @@ tuple_skips xs = plan_skips (tuple_plan xs)
 abbrev pub tuple_norm : List Norm → Norm
 tuple_norm ns m (list vs) = row (row_norm ns (at_value m) (parts vs))
 tuple_norm ns m v = v
+
+-- what each part assumes
+abbrev pub tuple_assumes : List (Type 0) → Type 0
+tuple_assumes [] = Unit {0}
+tuple_assumes (a ∷ bs) = a × tuple_assumes bs

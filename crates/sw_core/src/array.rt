@@ -4,11 +4,14 @@ use crate::adapter::{Adapter, DeserializeAs, SerializeAs};
 use crate::each;
 use crate::parts::{ReadParts, read_tuple};
 use std::alloc::{AllocError, Global};
+use std::marker::PhantomData;
 use sw_check::expr::Expr;
 use sw_tree::builds::Builds;
 use sw_tree::fail::{DeFail, SerFail};
 use sw_tree::meant::Meant;
 use sw_tree::mode::Mode;
+use sw_tree::node::Node;
+use sw_tree::node_builder::NodeBuilder;
 use sw_tree::skipped::Skipped;
 use sw_tree::view::{Items, View};
 
@@ -28,6 +31,16 @@ impl<T: Meant, A: SerializeAs<T>, const N: usize> SerializeAs<[T; N]> for [A; N]
         mode: Mode,
     ) -> Result<(), SerFail> {
         each::write_list::<T, A, B, _>(alloc, out, N, source.iter(), mode)
+    }
+
+    // As the trait derives it: of an array of adapters the size isn't known, which calling that would ask for.
+    fn serialize_as(alloc: Global, source: &[T; N], mode: Mode) -> Result<Node, SerFail> {
+        let mut builder = NodeBuilder::new(alloc);
+        Self::write_as(alloc, &mut builder, source, mode)?;
+        match builder.finish() {
+            Some(node) => Ok(node),
+            None => Err(SerFail::Memory),
+        }
     }
 }
 
@@ -57,13 +70,19 @@ impl<T: Meant + Copy + Default, A: DeserializeAs<T>, const N: usize> Deserialize
         mode: Mode,
         log: &mut Skipped,
     ) -> Result<[T; N], DeFail> {
-        read_tuple::<[T; N], [A; N]>(alloc, view, mode, log)
+        read_tuple::<[T; N], Repeated<A, N>>(alloc, view, mode, log)
     }
 
     ghost lawful_reading = { array_lawful N A.skips A.lawful_reading };
 }
 
-impl<T: Meant + Copy + Default, A: DeserializeAs<T>, const N: usize> ReadParts<[T; N]> for [A; N] {
+/// `N` parts that are all read by `A`.
+struct Repeated<A, const N: usize> {
+    part: PhantomData<A>,
+}
+
+impl<T: Meant + Copy + Default, A: DeserializeAs<T>, const N: usize> ReadParts<[T; N]>
+    for Repeated<A, N> {
     ghost use Rattle.std.specs.Prelude.{map};
     ghost use Rattle.sw_core.specs.Array.{array_readings};
 

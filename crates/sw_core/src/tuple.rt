@@ -71,14 +71,14 @@ impl<T: Meant, A: DeserializeAs<T>> DeserializeAs<(T,)> for (A,) {
 impl<T: Meant, A: Adapter<T>> Adapter<(T,)> for (A,) {
     ghost use Rattle.std.specs.Prelude.{[], ◌∷◌};
     ghost use Rattle.sw_check.specs.Form.{tuple, forms};
-    ghost use Rattle.sw_core.specs.Tuple.{tuple_norm};
+    ghost use Rattle.sw_core.specs.Tuple.{tuple_norm, tuple_assumes};
     ghost use Rattle.sw_core.specs.Laws.Tuple.{kept, tuple_keeps};
 
     ghost expr = { tuple (forms (A.expr ∷ [])) };
 
     ghost norm = { tuple_norm (A.norm ∷ []) };
 
-    ghost assumes = { A.assumes × Unit {0} };
+    ghost assumes = { tuple_assumes (A.assumes ∷ []) };
 
     fn describe(alloc: Global) -> Result<Expr, AllocError> {
         let parts = with_part::<T, A>(alloc, ExprList::new(alloc))?;
@@ -105,7 +105,8 @@ impl<T: Meant, U: Meant, A: SerializeAs<T>, B: SerializeAs<U>> SerializeAs<(T, U
     }
 }
 
-impl<T: Meant, U: Meant, A: DeserializeAs<T>, B: DeserializeAs<U>> DeserializeAs<(T, U)> for (A, B) {
+impl<T: Meant, U: Meant, A: DeserializeAs<T>, B: DeserializeAs<U>> DeserializeAs<(T, U)>
+    for (A, B) {
     ghost use Rattle.std.specs.Prelude.{[], ◌∷◌, ◌&&◌};
     ghost use Rattle.sw_core.specs.Parts.{reading};
     ghost use Rattle.sw_core.specs.Tuple.{tuple_reads, tuple_spot, tuple_skips};
@@ -138,14 +139,14 @@ impl<T: Meant, U: Meant, A: DeserializeAs<T>, B: DeserializeAs<U>> DeserializeAs
 impl<T: Meant, U: Meant, A: Adapter<T>, B: Adapter<U>> Adapter<(T, U)> for (A, B) {
     ghost use Rattle.std.specs.Prelude.{[], ◌∷◌};
     ghost use Rattle.sw_check.specs.Form.{tuple, forms};
-    ghost use Rattle.sw_core.specs.Tuple.{tuple_norm};
+    ghost use Rattle.sw_core.specs.Tuple.{tuple_norm, tuple_assumes};
     ghost use Rattle.sw_core.specs.Laws.Tuple.{kept, pair_keeps};
 
     ghost expr = { tuple (forms (A.expr ∷ B.expr ∷ [])) };
 
     ghost norm = { tuple_norm (A.norm ∷ B.norm ∷ []) };
 
-    ghost assumes = { A.assumes × B.assumes × Unit {0} };
+    ghost assumes = { tuple_assumes (A.assumes ∷ B.assumes ∷ []) };
 
     fn describe(alloc: Global) -> Result<Expr, AllocError> {
         let parts = with_part::<T, A>(alloc, ExprList::new(alloc))?;
@@ -156,7 +157,14 @@ impl<T: Meant, U: Meant, A: Adapter<T>, B: Adapter<U>> Adapter<(T, U)> for (A, B
     ghost keeps = { pair_keeps (kept A.keeps) (kept B.keeps) };
 }
 
-impl<T: Meant, U: Meant, V: Meant, A: SerializeAs<T>, B: SerializeAs<U>, C: SerializeAs<V>> SerializeAs<(T, U, V)> for (A, B, C) {
+impl<
+    T: Meant,
+    U: Meant,
+    V: Meant,
+    A: SerializeAs<T>,
+    B: SerializeAs<U>,
+    C: SerializeAs<V>,
+> SerializeAs<(T, U, V)> for (A, B, C) {
     ghost use Rattle.std.specs.Prelude.{[], ◌∷◌};
     ghost use Rattle.sw_core.specs.Tuple.{tuple_writes};
 
@@ -173,7 +181,14 @@ impl<T: Meant, U: Meant, V: Meant, A: SerializeAs<T>, B: SerializeAs<U>, C: Seri
     }
 }
 
-impl<T: Meant, U: Meant, V: Meant, A: DeserializeAs<T>, B: DeserializeAs<U>, C: DeserializeAs<V>> DeserializeAs<(T, U, V)> for (A, B, C) {
+impl<
+    T: Meant,
+    U: Meant,
+    V: Meant,
+    A: DeserializeAs<T>,
+    B: DeserializeAs<U>,
+    C: DeserializeAs<V>,
+> DeserializeAs<(T, U, V)> for (A, B, C) {
     ghost use Rattle.std.specs.Prelude.{[], ◌∷◌, ◌&&◌};
     ghost use Rattle.sw_core.specs.Parts.{reading};
     ghost use Rattle.sw_core.specs.Tuple.{tuple_reads, tuple_spot, tuple_skips};
@@ -203,17 +218,18 @@ impl<T: Meant, U: Meant, V: Meant, A: DeserializeAs<T>, B: DeserializeAs<U>, C: 
     ghost lawful_reading = { tuple_lawful (read_by A.skips A.lawful_reading ∷ read_by B.skips B.lawful_reading ∷ read_by C.skips C.lawful_reading ∷ []) };
 }
 
-impl<T: Meant, U: Meant, V: Meant, A: Adapter<T>, B: Adapter<U>, C: Adapter<V>> Adapter<(T, U, V)> for (A, B, C) {
+impl<T: Meant, U: Meant, V: Meant, A: Adapter<T>, B: Adapter<U>, C: Adapter<V>> Adapter<(T, U, V)>
+    for (A, B, C) {
     ghost use Rattle.std.specs.Prelude.{[], ◌∷◌};
     ghost use Rattle.sw_check.specs.Form.{tuple, forms};
-    ghost use Rattle.sw_core.specs.Tuple.{tuple_norm};
+    ghost use Rattle.sw_core.specs.Tuple.{tuple_norm, tuple_assumes};
     ghost use Rattle.sw_core.specs.Laws.Tuple.{kept, tuple_keeps};
 
     ghost expr = { tuple (forms (A.expr ∷ B.expr ∷ C.expr ∷ [])) };
 
     ghost norm = { tuple_norm (A.norm ∷ B.norm ∷ C.norm ∷ []) };
 
-    ghost assumes = { A.assumes × B.assumes × C.assumes × Unit {0} };
+    ghost assumes = { tuple_assumes (A.assumes ∷ B.assumes ∷ C.assumes ∷ []) };
 
     fn describe(alloc: Global) -> Result<Expr, AllocError> {
         let parts = with_part::<T, A>(alloc, ExprList::new(alloc))?;
@@ -225,7 +241,16 @@ impl<T: Meant, U: Meant, V: Meant, A: Adapter<T>, B: Adapter<U>, C: Adapter<V>> 
     ghost keeps = { tuple_keeps (kept A.keeps ∷ kept B.keeps ∷ kept C.keeps ∷ []) };
 }
 
-impl<T: Meant, U: Meant, V: Meant, W: Meant, A: SerializeAs<T>, B: SerializeAs<U>, C: SerializeAs<V>, D: SerializeAs<W>> SerializeAs<(T, U, V, W)> for (A, B, C, D) {
+impl<
+    T: Meant,
+    U: Meant,
+    V: Meant,
+    W: Meant,
+    A: SerializeAs<T>,
+    B: SerializeAs<U>,
+    C: SerializeAs<V>,
+    D: SerializeAs<W>,
+> SerializeAs<(T, U, V, W)> for (A, B, C, D) {
     ghost use Rattle.std.specs.Prelude.{[], ◌∷◌};
     ghost use Rattle.sw_core.specs.Tuple.{tuple_writes};
 
@@ -238,11 +263,22 @@ impl<T: Meant, U: Meant, V: Meant, W: Meant, A: SerializeAs<T>, B: SerializeAs<U
         mode: Mode,
     ) -> Result<(), SerFail> {
         let parts = (&source.0, (&source.1, (&source.2, (&source.3, ()))));
-        write_tuple::<(&T, (&U, (&V, (&W, ())))), (A, (B, (C, (D, ())))), Out>(alloc, out, 4, parts, mode)
+        write_tuple::<(&T, (&U, (&V, (&W, ())))), (A, (B, (C, (D, ())))), Out>(
+            alloc, out, 4, parts, mode,
+        )
     }
 }
 
-impl<T: Meant, U: Meant, V: Meant, W: Meant, A: DeserializeAs<T>, B: DeserializeAs<U>, C: DeserializeAs<V>, D: DeserializeAs<W>> DeserializeAs<(T, U, V, W)> for (A, B, C, D) {
+impl<
+    T: Meant,
+    U: Meant,
+    V: Meant,
+    W: Meant,
+    A: DeserializeAs<T>,
+    B: DeserializeAs<U>,
+    C: DeserializeAs<V>,
+    D: DeserializeAs<W>,
+> DeserializeAs<(T, U, V, W)> for (A, B, C, D) {
     ghost use Rattle.std.specs.Prelude.{[], ◌∷◌, ◌&&◌};
     ghost use Rattle.sw_core.specs.Parts.{reading};
     ghost use Rattle.sw_core.specs.Tuple.{tuple_reads, tuple_spot, tuple_skips};
@@ -264,7 +300,9 @@ impl<T: Meant, U: Meant, V: Meant, W: Meant, A: DeserializeAs<T>, B: Deserialize
         mode: Mode,
         log: &mut Skipped,
     ) -> Result<(T, U, V, W), DeFail> {
-        let parts = read_tuple::<(T, (U, (V, (W, ())))), (A, (B, (C, (D, ()))))>(alloc, view, mode, log)?;
+        let parts = read_tuple::<(T, (U, (V, (W, ())))), (A, (B, (C, (D, ()))))>(
+            alloc, view, mode, log,
+        )?;
         let (first, (second, (third, (fourth, ())))) = parts;
         Ok((first, second, third, fourth))
     }
@@ -272,17 +310,26 @@ impl<T: Meant, U: Meant, V: Meant, W: Meant, A: DeserializeAs<T>, B: Deserialize
     ghost lawful_reading = { tuple_lawful (read_by A.skips A.lawful_reading ∷ read_by B.skips B.lawful_reading ∷ read_by C.skips C.lawful_reading ∷ read_by D.skips D.lawful_reading ∷ []) };
 }
 
-impl<T: Meant, U: Meant, V: Meant, W: Meant, A: Adapter<T>, B: Adapter<U>, C: Adapter<V>, D: Adapter<W>> Adapter<(T, U, V, W)> for (A, B, C, D) {
+impl<
+    T: Meant,
+    U: Meant,
+    V: Meant,
+    W: Meant,
+    A: Adapter<T>,
+    B: Adapter<U>,
+    C: Adapter<V>,
+    D: Adapter<W>,
+> Adapter<(T, U, V, W)> for (A, B, C, D) {
     ghost use Rattle.std.specs.Prelude.{[], ◌∷◌};
     ghost use Rattle.sw_check.specs.Form.{tuple, forms};
-    ghost use Rattle.sw_core.specs.Tuple.{tuple_norm};
+    ghost use Rattle.sw_core.specs.Tuple.{tuple_norm, tuple_assumes};
     ghost use Rattle.sw_core.specs.Laws.Tuple.{kept, tuple_keeps};
 
     ghost expr = { tuple (forms (A.expr ∷ B.expr ∷ C.expr ∷ D.expr ∷ [])) };
 
     ghost norm = { tuple_norm (A.norm ∷ B.norm ∷ C.norm ∷ D.norm ∷ []) };
 
-    ghost assumes = { A.assumes × B.assumes × C.assumes × D.assumes × Unit {0} };
+    ghost assumes = { tuple_assumes (A.assumes ∷ B.assumes ∷ C.assumes ∷ D.assumes ∷ []) };
 
     fn describe(alloc: Global) -> Result<Expr, AllocError> {
         let parts = with_part::<T, A>(alloc, ExprList::new(alloc))?;
@@ -295,7 +342,18 @@ impl<T: Meant, U: Meant, V: Meant, W: Meant, A: Adapter<T>, B: Adapter<U>, C: Ad
     ghost keeps = { tuple_keeps (kept A.keeps ∷ kept B.keeps ∷ kept C.keeps ∷ kept D.keeps ∷ []) };
 }
 
-impl<T: Meant, U: Meant, V: Meant, W: Meant, X: Meant, A: SerializeAs<T>, B: SerializeAs<U>, C: SerializeAs<V>, D: SerializeAs<W>, E: SerializeAs<X>> SerializeAs<(T, U, V, W, X)> for (A, B, C, D, E) {
+impl<
+    T: Meant,
+    U: Meant,
+    V: Meant,
+    W: Meant,
+    X: Meant,
+    A: SerializeAs<T>,
+    B: SerializeAs<U>,
+    C: SerializeAs<V>,
+    D: SerializeAs<W>,
+    E: SerializeAs<X>,
+> SerializeAs<(T, U, V, W, X)> for (A, B, C, D, E) {
     ghost use Rattle.std.specs.Prelude.{[], ◌∷◌};
     ghost use Rattle.sw_core.specs.Tuple.{tuple_writes};
 
@@ -307,12 +365,28 @@ impl<T: Meant, U: Meant, V: Meant, W: Meant, X: Meant, A: SerializeAs<T>, B: Ser
         source: &(T, U, V, W, X),
         mode: Mode,
     ) -> Result<(), SerFail> {
-        let parts = (&source.0, (&source.1, (&source.2, (&source.3, (&source.4, ())))));
-        write_tuple::<(&T, (&U, (&V, (&W, (&X, ()))))), (A, (B, (C, (D, (E, ()))))), Out>(alloc, out, 5, parts, mode)
+        let parts = (
+            &source.0,
+            (&source.1, (&source.2, (&source.3, (&source.4, ())))),
+        );
+        write_tuple::<(&T, (&U, (&V, (&W, (&X, ()))))), (A, (B, (C, (D, (E, ()))))), Out>(
+            alloc, out, 5, parts, mode,
+        )
     }
 }
 
-impl<T: Meant, U: Meant, V: Meant, W: Meant, X: Meant, A: DeserializeAs<T>, B: DeserializeAs<U>, C: DeserializeAs<V>, D: DeserializeAs<W>, E: DeserializeAs<X>> DeserializeAs<(T, U, V, W, X)> for (A, B, C, D, E) {
+impl<
+    T: Meant,
+    U: Meant,
+    V: Meant,
+    W: Meant,
+    X: Meant,
+    A: DeserializeAs<T>,
+    B: DeserializeAs<U>,
+    C: DeserializeAs<V>,
+    D: DeserializeAs<W>,
+    E: DeserializeAs<X>,
+> DeserializeAs<(T, U, V, W, X)> for (A, B, C, D, E) {
     ghost use Rattle.std.specs.Prelude.{[], ◌∷◌, ◌&&◌};
     ghost use Rattle.sw_core.specs.Parts.{reading};
     ghost use Rattle.sw_core.specs.Tuple.{tuple_reads, tuple_spot, tuple_skips};
@@ -334,7 +408,9 @@ impl<T: Meant, U: Meant, V: Meant, W: Meant, X: Meant, A: DeserializeAs<T>, B: D
         mode: Mode,
         log: &mut Skipped,
     ) -> Result<(T, U, V, W, X), DeFail> {
-        let parts = read_tuple::<(T, (U, (V, (W, (X, ()))))), (A, (B, (C, (D, (E, ())))))>(alloc, view, mode, log)?;
+        let parts = read_tuple::<(T, (U, (V, (W, (X, ()))))), (A, (B, (C, (D, (E, ())))))>(
+            alloc, view, mode, log,
+        )?;
         let (first, (second, (third, (fourth, (fifth, ()))))) = parts;
         Ok((first, second, third, fourth, fifth))
     }
@@ -342,17 +418,28 @@ impl<T: Meant, U: Meant, V: Meant, W: Meant, X: Meant, A: DeserializeAs<T>, B: D
     ghost lawful_reading = { tuple_lawful (read_by A.skips A.lawful_reading ∷ read_by B.skips B.lawful_reading ∷ read_by C.skips C.lawful_reading ∷ read_by D.skips D.lawful_reading ∷ read_by E.skips E.lawful_reading ∷ []) };
 }
 
-impl<T: Meant, U: Meant, V: Meant, W: Meant, X: Meant, A: Adapter<T>, B: Adapter<U>, C: Adapter<V>, D: Adapter<W>, E: Adapter<X>> Adapter<(T, U, V, W, X)> for (A, B, C, D, E) {
+impl<
+    T: Meant,
+    U: Meant,
+    V: Meant,
+    W: Meant,
+    X: Meant,
+    A: Adapter<T>,
+    B: Adapter<U>,
+    C: Adapter<V>,
+    D: Adapter<W>,
+    E: Adapter<X>,
+> Adapter<(T, U, V, W, X)> for (A, B, C, D, E) {
     ghost use Rattle.std.specs.Prelude.{[], ◌∷◌};
     ghost use Rattle.sw_check.specs.Form.{tuple, forms};
-    ghost use Rattle.sw_core.specs.Tuple.{tuple_norm};
+    ghost use Rattle.sw_core.specs.Tuple.{tuple_norm, tuple_assumes};
     ghost use Rattle.sw_core.specs.Laws.Tuple.{kept, tuple_keeps};
 
     ghost expr = { tuple (forms (A.expr ∷ B.expr ∷ C.expr ∷ D.expr ∷ E.expr ∷ [])) };
 
     ghost norm = { tuple_norm (A.norm ∷ B.norm ∷ C.norm ∷ D.norm ∷ E.norm ∷ []) };
 
-    ghost assumes = { A.assumes × B.assumes × C.assumes × D.assumes × E.assumes × Unit {0} };
+    ghost assumes = { tuple_assumes (A.assumes ∷ B.assumes ∷ C.assumes ∷ D.assumes ∷ E.assumes ∷ []) };
 
     fn describe(alloc: Global) -> Result<Expr, AllocError> {
         let parts = with_part::<T, A>(alloc, ExprList::new(alloc))?;
@@ -366,7 +453,20 @@ impl<T: Meant, U: Meant, V: Meant, W: Meant, X: Meant, A: Adapter<T>, B: Adapter
     ghost keeps = { tuple_keeps (kept A.keeps ∷ kept B.keeps ∷ kept C.keeps ∷ kept D.keeps ∷ kept E.keeps ∷ []) };
 }
 
-impl<T: Meant, U: Meant, V: Meant, W: Meant, X: Meant, Y: Meant, A: SerializeAs<T>, B: SerializeAs<U>, C: SerializeAs<V>, D: SerializeAs<W>, E: SerializeAs<X>, F: SerializeAs<Y>> SerializeAs<(T, U, V, W, X, Y)> for (A, B, C, D, E, F) {
+impl<
+    T: Meant,
+    U: Meant,
+    V: Meant,
+    W: Meant,
+    X: Meant,
+    Y: Meant,
+    A: SerializeAs<T>,
+    B: SerializeAs<U>,
+    C: SerializeAs<V>,
+    D: SerializeAs<W>,
+    E: SerializeAs<X>,
+    F: SerializeAs<Y>,
+> SerializeAs<(T, U, V, W, X, Y)> for (A, B, C, D, E, F) {
     ghost use Rattle.std.specs.Prelude.{[], ◌∷◌};
     ghost use Rattle.sw_core.specs.Tuple.{tuple_writes};
 
@@ -378,12 +478,35 @@ impl<T: Meant, U: Meant, V: Meant, W: Meant, X: Meant, Y: Meant, A: SerializeAs<
         source: &(T, U, V, W, X, Y),
         mode: Mode,
     ) -> Result<(), SerFail> {
-        let parts = (&source.0, (&source.1, (&source.2, (&source.3, (&source.4, (&source.5, ()))))));
-        write_tuple::<(&T, (&U, (&V, (&W, (&X, (&Y, ())))))), (A, (B, (C, (D, (E, (F, ())))))), Out>(alloc, out, 6, parts, mode)
+        let parts = (
+            &source.0,
+            (
+                &source.1,
+                (&source.2, (&source.3, (&source.4, (&source.5, ())))),
+            ),
+        );
+        write_tuple::<
+            (&T, (&U, (&V, (&W, (&X, (&Y, ())))))),
+            (A, (B, (C, (D, (E, (F, ())))))),
+            Out,
+        >(alloc, out, 6, parts, mode)
     }
 }
 
-impl<T: Meant, U: Meant, V: Meant, W: Meant, X: Meant, Y: Meant, A: DeserializeAs<T>, B: DeserializeAs<U>, C: DeserializeAs<V>, D: DeserializeAs<W>, E: DeserializeAs<X>, F: DeserializeAs<Y>> DeserializeAs<(T, U, V, W, X, Y)> for (A, B, C, D, E, F) {
+impl<
+    T: Meant,
+    U: Meant,
+    V: Meant,
+    W: Meant,
+    X: Meant,
+    Y: Meant,
+    A: DeserializeAs<T>,
+    B: DeserializeAs<U>,
+    C: DeserializeAs<V>,
+    D: DeserializeAs<W>,
+    E: DeserializeAs<X>,
+    F: DeserializeAs<Y>,
+> DeserializeAs<(T, U, V, W, X, Y)> for (A, B, C, D, E, F) {
     ghost use Rattle.std.specs.Prelude.{[], ◌∷◌, ◌&&◌};
     ghost use Rattle.sw_core.specs.Parts.{reading};
     ghost use Rattle.sw_core.specs.Tuple.{tuple_reads, tuple_spot, tuple_skips};
@@ -405,7 +528,10 @@ impl<T: Meant, U: Meant, V: Meant, W: Meant, X: Meant, Y: Meant, A: DeserializeA
         mode: Mode,
         log: &mut Skipped,
     ) -> Result<(T, U, V, W, X, Y), DeFail> {
-        let parts = read_tuple::<(T, (U, (V, (W, (X, (Y, ())))))), (A, (B, (C, (D, (E, (F, ()))))))>(alloc, view, mode, log)?;
+        let parts = read_tuple::<
+            (T, (U, (V, (W, (X, (Y, ())))))),
+            (A, (B, (C, (D, (E, (F, ())))))),
+        >(alloc, view, mode, log)?;
         let (first, (second, (third, (fourth, (fifth, (sixth, ())))))) = parts;
         Ok((first, second, third, fourth, fifth, sixth))
     }
@@ -413,17 +539,30 @@ impl<T: Meant, U: Meant, V: Meant, W: Meant, X: Meant, Y: Meant, A: DeserializeA
     ghost lawful_reading = { tuple_lawful (read_by A.skips A.lawful_reading ∷ read_by B.skips B.lawful_reading ∷ read_by C.skips C.lawful_reading ∷ read_by D.skips D.lawful_reading ∷ read_by E.skips E.lawful_reading ∷ read_by F.skips F.lawful_reading ∷ []) };
 }
 
-impl<T: Meant, U: Meant, V: Meant, W: Meant, X: Meant, Y: Meant, A: Adapter<T>, B: Adapter<U>, C: Adapter<V>, D: Adapter<W>, E: Adapter<X>, F: Adapter<Y>> Adapter<(T, U, V, W, X, Y)> for (A, B, C, D, E, F) {
+impl<
+    T: Meant,
+    U: Meant,
+    V: Meant,
+    W: Meant,
+    X: Meant,
+    Y: Meant,
+    A: Adapter<T>,
+    B: Adapter<U>,
+    C: Adapter<V>,
+    D: Adapter<W>,
+    E: Adapter<X>,
+    F: Adapter<Y>,
+> Adapter<(T, U, V, W, X, Y)> for (A, B, C, D, E, F) {
     ghost use Rattle.std.specs.Prelude.{[], ◌∷◌};
     ghost use Rattle.sw_check.specs.Form.{tuple, forms};
-    ghost use Rattle.sw_core.specs.Tuple.{tuple_norm};
+    ghost use Rattle.sw_core.specs.Tuple.{tuple_norm, tuple_assumes};
     ghost use Rattle.sw_core.specs.Laws.Tuple.{kept, tuple_keeps};
 
     ghost expr = { tuple (forms (A.expr ∷ B.expr ∷ C.expr ∷ D.expr ∷ E.expr ∷ F.expr ∷ [])) };
 
     ghost norm = { tuple_norm (A.norm ∷ B.norm ∷ C.norm ∷ D.norm ∷ E.norm ∷ F.norm ∷ []) };
 
-    ghost assumes = { A.assumes × B.assumes × C.assumes × D.assumes × E.assumes × F.assumes × Unit {0} };
+    ghost assumes = { tuple_assumes (A.assumes ∷ B.assumes ∷ C.assumes ∷ D.assumes ∷ E.assumes ∷ F.assumes ∷ []) };
 
     fn describe(alloc: Global) -> Result<Expr, AllocError> {
         let parts = with_part::<T, A>(alloc, ExprList::new(alloc))?;
@@ -438,7 +577,22 @@ impl<T: Meant, U: Meant, V: Meant, W: Meant, X: Meant, Y: Meant, A: Adapter<T>, 
     ghost keeps = { tuple_keeps (kept A.keeps ∷ kept B.keeps ∷ kept C.keeps ∷ kept D.keeps ∷ kept E.keeps ∷ kept F.keeps ∷ []) };
 }
 
-impl<T: Meant, U: Meant, V: Meant, W: Meant, X: Meant, Y: Meant, Z: Meant, A: SerializeAs<T>, B: SerializeAs<U>, C: SerializeAs<V>, D: SerializeAs<W>, E: SerializeAs<X>, F: SerializeAs<Y>, G: SerializeAs<Z>> SerializeAs<(T, U, V, W, X, Y, Z)> for (A, B, C, D, E, F, G) {
+impl<
+    T: Meant,
+    U: Meant,
+    V: Meant,
+    W: Meant,
+    X: Meant,
+    Y: Meant,
+    Z: Meant,
+    A: SerializeAs<T>,
+    B: SerializeAs<U>,
+    C: SerializeAs<V>,
+    D: SerializeAs<W>,
+    E: SerializeAs<X>,
+    F: SerializeAs<Y>,
+    G: SerializeAs<Z>,
+> SerializeAs<(T, U, V, W, X, Y, Z)> for (A, B, C, D, E, F, G) {
     ghost use Rattle.std.specs.Prelude.{[], ◌∷◌};
     ghost use Rattle.sw_core.specs.Tuple.{tuple_writes};
 
@@ -450,12 +604,40 @@ impl<T: Meant, U: Meant, V: Meant, W: Meant, X: Meant, Y: Meant, Z: Meant, A: Se
         source: &(T, U, V, W, X, Y, Z),
         mode: Mode,
     ) -> Result<(), SerFail> {
-        let parts = (&source.0, (&source.1, (&source.2, (&source.3, (&source.4, (&source.5, (&source.6, ())))))));
-        write_tuple::<(&T, (&U, (&V, (&W, (&X, (&Y, (&Z, ()))))))), (A, (B, (C, (D, (E, (F, (G, ()))))))), Out>(alloc, out, 7, parts, mode)
+        let parts = (
+            &source.0,
+            (
+                &source.1,
+                (
+                    &source.2,
+                    (&source.3, (&source.4, (&source.5, (&source.6, ())))),
+                ),
+            ),
+        );
+        write_tuple::<
+            (&T, (&U, (&V, (&W, (&X, (&Y, (&Z, ()))))))),
+            (A, (B, (C, (D, (E, (F, (G, ()))))))),
+            Out,
+        >(alloc, out, 7, parts, mode)
     }
 }
 
-impl<T: Meant, U: Meant, V: Meant, W: Meant, X: Meant, Y: Meant, Z: Meant, A: DeserializeAs<T>, B: DeserializeAs<U>, C: DeserializeAs<V>, D: DeserializeAs<W>, E: DeserializeAs<X>, F: DeserializeAs<Y>, G: DeserializeAs<Z>> DeserializeAs<(T, U, V, W, X, Y, Z)> for (A, B, C, D, E, F, G) {
+impl<
+    T: Meant,
+    U: Meant,
+    V: Meant,
+    W: Meant,
+    X: Meant,
+    Y: Meant,
+    Z: Meant,
+    A: DeserializeAs<T>,
+    B: DeserializeAs<U>,
+    C: DeserializeAs<V>,
+    D: DeserializeAs<W>,
+    E: DeserializeAs<X>,
+    F: DeserializeAs<Y>,
+    G: DeserializeAs<Z>,
+> DeserializeAs<(T, U, V, W, X, Y, Z)> for (A, B, C, D, E, F, G) {
     ghost use Rattle.std.specs.Prelude.{[], ◌∷◌, ◌&&◌};
     ghost use Rattle.sw_core.specs.Parts.{reading};
     ghost use Rattle.sw_core.specs.Tuple.{tuple_reads, tuple_spot, tuple_skips};
@@ -477,7 +659,10 @@ impl<T: Meant, U: Meant, V: Meant, W: Meant, X: Meant, Y: Meant, Z: Meant, A: De
         mode: Mode,
         log: &mut Skipped,
     ) -> Result<(T, U, V, W, X, Y, Z), DeFail> {
-        let parts = read_tuple::<(T, (U, (V, (W, (X, (Y, (Z, ()))))))), (A, (B, (C, (D, (E, (F, (G, ())))))))>(alloc, view, mode, log)?;
+        let parts = read_tuple::<
+            (T, (U, (V, (W, (X, (Y, (Z, ()))))))),
+            (A, (B, (C, (D, (E, (F, (G, ()))))))),
+        >(alloc, view, mode, log)?;
         let (first, (second, (third, (fourth, (fifth, (sixth, (seventh, ()))))))) = parts;
         Ok((first, second, third, fourth, fifth, sixth, seventh))
     }
@@ -485,17 +670,32 @@ impl<T: Meant, U: Meant, V: Meant, W: Meant, X: Meant, Y: Meant, Z: Meant, A: De
     ghost lawful_reading = { tuple_lawful (read_by A.skips A.lawful_reading ∷ read_by B.skips B.lawful_reading ∷ read_by C.skips C.lawful_reading ∷ read_by D.skips D.lawful_reading ∷ read_by E.skips E.lawful_reading ∷ read_by F.skips F.lawful_reading ∷ read_by G.skips G.lawful_reading ∷ []) };
 }
 
-impl<T: Meant, U: Meant, V: Meant, W: Meant, X: Meant, Y: Meant, Z: Meant, A: Adapter<T>, B: Adapter<U>, C: Adapter<V>, D: Adapter<W>, E: Adapter<X>, F: Adapter<Y>, G: Adapter<Z>> Adapter<(T, U, V, W, X, Y, Z)> for (A, B, C, D, E, F, G) {
+impl<
+    T: Meant,
+    U: Meant,
+    V: Meant,
+    W: Meant,
+    X: Meant,
+    Y: Meant,
+    Z: Meant,
+    A: Adapter<T>,
+    B: Adapter<U>,
+    C: Adapter<V>,
+    D: Adapter<W>,
+    E: Adapter<X>,
+    F: Adapter<Y>,
+    G: Adapter<Z>,
+> Adapter<(T, U, V, W, X, Y, Z)> for (A, B, C, D, E, F, G) {
     ghost use Rattle.std.specs.Prelude.{[], ◌∷◌};
     ghost use Rattle.sw_check.specs.Form.{tuple, forms};
-    ghost use Rattle.sw_core.specs.Tuple.{tuple_norm};
+    ghost use Rattle.sw_core.specs.Tuple.{tuple_norm, tuple_assumes};
     ghost use Rattle.sw_core.specs.Laws.Tuple.{kept, tuple_keeps};
 
     ghost expr = { tuple (forms (A.expr ∷ B.expr ∷ C.expr ∷ D.expr ∷ E.expr ∷ F.expr ∷ G.expr ∷ [])) };
 
     ghost norm = { tuple_norm (A.norm ∷ B.norm ∷ C.norm ∷ D.norm ∷ E.norm ∷ F.norm ∷ G.norm ∷ []) };
 
-    ghost assumes = { A.assumes × B.assumes × C.assumes × D.assumes × E.assumes × F.assumes × G.assumes × Unit {0} };
+    ghost assumes = { tuple_assumes (A.assumes ∷ B.assumes ∷ C.assumes ∷ D.assumes ∷ E.assumes ∷ F.assumes ∷ G.assumes ∷ []) };
 
     fn describe(alloc: Global) -> Result<Expr, AllocError> {
         let parts = with_part::<T, A>(alloc, ExprList::new(alloc))?;
@@ -511,7 +711,24 @@ impl<T: Meant, U: Meant, V: Meant, W: Meant, X: Meant, Y: Meant, Z: Meant, A: Ad
     ghost keeps = { tuple_keeps (kept A.keeps ∷ kept B.keeps ∷ kept C.keeps ∷ kept D.keeps ∷ kept E.keeps ∷ kept F.keeps ∷ kept G.keeps ∷ []) };
 }
 
-impl<T: Meant, U: Meant, V: Meant, W: Meant, X: Meant, Y: Meant, Z: Meant, S: Meant, A: SerializeAs<T>, B: SerializeAs<U>, C: SerializeAs<V>, D: SerializeAs<W>, E: SerializeAs<X>, F: SerializeAs<Y>, G: SerializeAs<Z>, H: SerializeAs<S>> SerializeAs<(T, U, V, W, X, Y, Z, S)> for (A, B, C, D, E, F, G, H) {
+impl<
+    T: Meant,
+    U: Meant,
+    V: Meant,
+    W: Meant,
+    X: Meant,
+    Y: Meant,
+    Z: Meant,
+    S: Meant,
+    A: SerializeAs<T>,
+    B: SerializeAs<U>,
+    C: SerializeAs<V>,
+    D: SerializeAs<W>,
+    E: SerializeAs<X>,
+    F: SerializeAs<Y>,
+    G: SerializeAs<Z>,
+    H: SerializeAs<S>,
+> SerializeAs<(T, U, V, W, X, Y, Z, S)> for (A, B, C, D, E, F, G, H) {
     ghost use Rattle.std.specs.Prelude.{[], ◌∷◌};
     ghost use Rattle.sw_core.specs.Tuple.{tuple_writes};
 
@@ -523,18 +740,58 @@ impl<T: Meant, U: Meant, V: Meant, W: Meant, X: Meant, Y: Meant, Z: Meant, S: Me
         source: &(T, U, V, W, X, Y, Z, S),
         mode: Mode,
     ) -> Result<(), SerFail> {
-        let parts = (&source.0, (&source.1, (&source.2, (&source.3, (&source.4, (&source.5, (&source.6, (&source.7, ()))))))));
-        write_tuple::<(&T, (&U, (&V, (&W, (&X, (&Y, (&Z, (&S, ())))))))), (A, (B, (C, (D, (E, (F, (G, (H, ())))))))), Out>(alloc, out, 8, parts, mode)
+        let parts = (
+            &source.0,
+            (
+                &source.1,
+                (
+                    &source.2,
+                    (
+                        &source.3,
+                        (&source.4, (&source.5, (&source.6, (&source.7, ())))),
+                    ),
+                ),
+            ),
+        );
+        write_tuple::<
+            (&T, (&U, (&V, (&W, (&X, (&Y, (&Z, (&S, ())))))))),
+            (A, (B, (C, (D, (E, (F, (G, (H, ())))))))),
+            Out,
+        >(alloc, out, 8, parts, mode)
     }
 }
 
-impl<T: Meant, U: Meant, V: Meant, W: Meant, X: Meant, Y: Meant, Z: Meant, S: Meant, A: DeserializeAs<T>, B: DeserializeAs<U>, C: DeserializeAs<V>, D: DeserializeAs<W>, E: DeserializeAs<X>, F: DeserializeAs<Y>, G: DeserializeAs<Z>, H: DeserializeAs<S>> DeserializeAs<(T, U, V, W, X, Y, Z, S)> for (A, B, C, D, E, F, G, H) {
+impl<
+    T: Meant,
+    U: Meant,
+    V: Meant,
+    W: Meant,
+    X: Meant,
+    Y: Meant,
+    Z: Meant,
+    S: Meant,
+    A: DeserializeAs<T>,
+    B: DeserializeAs<U>,
+    C: DeserializeAs<V>,
+    D: DeserializeAs<W>,
+    E: DeserializeAs<X>,
+    F: DeserializeAs<Y>,
+    G: DeserializeAs<Z>,
+    H: DeserializeAs<S>,
+> DeserializeAs<(T, U, V, W, X, Y, Z, S)> for (A, B, C, D, E, F, G, H) {
     ghost use Rattle.std.specs.Prelude.{[], ◌∷◌, ◌&&◌};
     ghost use Rattle.sw_core.specs.Parts.{reading};
     ghost use Rattle.sw_core.specs.Tuple.{tuple_reads, tuple_spot, tuple_skips};
     ghost use Rattle.sw_core.specs.Laws.Tuple.{read_by, tuple_lawful};
 
-    const FREE: bool = A::FREE && B::FREE && C::FREE && D::FREE && E::FREE && F::FREE && G::FREE && H::FREE;
+    const FREE: bool = A::FREE
+        && B::FREE
+        && C::FREE
+        && D::FREE
+        && E::FREE
+        && F::FREE
+        && G::FREE
+        && H::FREE;
 
     ghost FREE = { A.FREE && (B.FREE && (C.FREE && (D.FREE && (E.FREE && (F.FREE && (G.FREE && H.FREE)))))) };
 
@@ -550,7 +807,10 @@ impl<T: Meant, U: Meant, V: Meant, W: Meant, X: Meant, Y: Meant, Z: Meant, S: Me
         mode: Mode,
         log: &mut Skipped,
     ) -> Result<(T, U, V, W, X, Y, Z, S), DeFail> {
-        let parts = read_tuple::<(T, (U, (V, (W, (X, (Y, (Z, (S, ())))))))), (A, (B, (C, (D, (E, (F, (G, (H, ()))))))))>(alloc, view, mode, log)?;
+        let parts = read_tuple::<
+            (T, (U, (V, (W, (X, (Y, (Z, (S, ())))))))),
+            (A, (B, (C, (D, (E, (F, (G, (H, ())))))))),
+        >(alloc, view, mode, log)?;
         let (first, (second, (third, (fourth, (fifth, (sixth, (seventh, (eighth, ())))))))) = parts;
         Ok((first, second, third, fourth, fifth, sixth, seventh, eighth))
     }
@@ -558,17 +818,34 @@ impl<T: Meant, U: Meant, V: Meant, W: Meant, X: Meant, Y: Meant, Z: Meant, S: Me
     ghost lawful_reading = { tuple_lawful (read_by A.skips A.lawful_reading ∷ read_by B.skips B.lawful_reading ∷ read_by C.skips C.lawful_reading ∷ read_by D.skips D.lawful_reading ∷ read_by E.skips E.lawful_reading ∷ read_by F.skips F.lawful_reading ∷ read_by G.skips G.lawful_reading ∷ read_by H.skips H.lawful_reading ∷ []) };
 }
 
-impl<T: Meant, U: Meant, V: Meant, W: Meant, X: Meant, Y: Meant, Z: Meant, S: Meant, A: Adapter<T>, B: Adapter<U>, C: Adapter<V>, D: Adapter<W>, E: Adapter<X>, F: Adapter<Y>, G: Adapter<Z>, H: Adapter<S>> Adapter<(T, U, V, W, X, Y, Z, S)> for (A, B, C, D, E, F, G, H) {
+impl<
+    T: Meant,
+    U: Meant,
+    V: Meant,
+    W: Meant,
+    X: Meant,
+    Y: Meant,
+    Z: Meant,
+    S: Meant,
+    A: Adapter<T>,
+    B: Adapter<U>,
+    C: Adapter<V>,
+    D: Adapter<W>,
+    E: Adapter<X>,
+    F: Adapter<Y>,
+    G: Adapter<Z>,
+    H: Adapter<S>,
+> Adapter<(T, U, V, W, X, Y, Z, S)> for (A, B, C, D, E, F, G, H) {
     ghost use Rattle.std.specs.Prelude.{[], ◌∷◌};
     ghost use Rattle.sw_check.specs.Form.{tuple, forms};
-    ghost use Rattle.sw_core.specs.Tuple.{tuple_norm};
+    ghost use Rattle.sw_core.specs.Tuple.{tuple_norm, tuple_assumes};
     ghost use Rattle.sw_core.specs.Laws.Tuple.{kept, tuple_keeps};
 
     ghost expr = { tuple (forms (A.expr ∷ B.expr ∷ C.expr ∷ D.expr ∷ E.expr ∷ F.expr ∷ G.expr ∷ H.expr ∷ [])) };
 
     ghost norm = { tuple_norm (A.norm ∷ B.norm ∷ C.norm ∷ D.norm ∷ E.norm ∷ F.norm ∷ G.norm ∷ H.norm ∷ []) };
 
-    ghost assumes = { A.assumes × B.assumes × C.assumes × D.assumes × E.assumes × F.assumes × G.assumes × H.assumes × Unit {0} };
+    ghost assumes = { tuple_assumes (A.assumes ∷ B.assumes ∷ C.assumes ∷ D.assumes ∷ E.assumes ∷ F.assumes ∷ G.assumes ∷ H.assumes ∷ []) };
 
     fn describe(alloc: Global) -> Result<Expr, AllocError> {
         let parts = with_part::<T, A>(alloc, ExprList::new(alloc))?;

@@ -1,5 +1,5 @@
 -- The laws of an array: those of a list where it is written, and those of a tuple where it is read.
-use Rattle.std.specs.Prelude.{◌≡◌, ℕ, zero, suc, List, [], ◌∷◌, length, map as list_map, replicate, false, option_map, Ok}
+use Rattle.std.specs.Prelude.{◌≡◌, ℕ, zero, suc, List, [], ◌∷◌, length, map as list_map, replicate, false, Ok}
 use Rattle.std.proofs.Common.{refl, ap, sym, subst, ◌∙◌}
 use Rattle.std.proofs.lemmas.List.{length-map, length-replicate}
 use Rattle.sw_tree.specs.Image.{image}

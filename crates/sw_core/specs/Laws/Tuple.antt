@@ -33,7 +33,7 @@ use Rattle.sw_elem.specs.Statements.{Norm, HasImages, ReadsBack, NeverKey, IsUnm
 use Rattle.sw_core.specs.Parts.{Reading, reading, in_mode, all_in, row_writes, row_norm}
 use Rattle.sw_core.specs.Plans.{children}
 use Rattle.sw_core.specs.Rows.{Reader}
-use Rattle.sw_core.specs.Tuple.{tuple_writes, made, tuple_plan, tuple_reads, tuple_spot, tuple_skips, tuple_norm}
+use Rattle.sw_core.specs.Tuple.{tuple_writes, tuple_plan, tuple_reads, tuple_spot, tuple_skips, tuple_norm}
 use Rattle.sw_core.specs.Laws.Images.{list-image, mapped_some}
 use Rattle.sw_core.specs.Laws.Parts.{IsReading, HasKinds, HasNotes, AreReadings, IsInside, reading_kinds, reading_notes, all_inside, all_in-at, all_in-meant, all_in-count, Part, IsPart, EachPart, are_of, writes_of, bys_of, exprs_of, norms_of, All, parts_sound, parts_keep, parts_read, row_nodes, row_normed, IsImaged, IsReadBack, IsNeverKey, IsKept, row_imaged, row_back, row_count, row_never, row_exact, row_same, parts_back, parts_exact}
 use Rattle.sw_core.specs.Laws.Plans.{RefusesItself, plan_lawful, plan_spot_kinds, plan_note_kinds}
