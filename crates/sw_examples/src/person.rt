@@ -92,13 +92,17 @@ impl<A: DeserializeAs<String>, B: DeserializeAs<u8>, C: DeserializeAs<Vec<u32>>>
     }
 
     fn finish(self, alloc: Global, view: View<'_>) -> Result<Person, DeFail> {
-        let Some(name) = self.name else {
+        let (name, age, tags) = (self.name, self.age, self.tags);
+        let Some(name) = name else {
             return Err(refused_at(view, DeError::MissingField(0)));
         };
-        let Some(age) = self.age else {
+        let Some(age) = age else {
             return Err(refused_at(view, DeError::MissingField(1)));
         };
-        let tags = self.tags.unwrap_or(Vec::new(alloc));
+        let tags = match tags {
+            Some(tags) => tags,
+            None => Vec::new(alloc),
+        };
         Ok(Person { name, age, tags })
     }
 }
@@ -133,10 +137,10 @@ impl<A: SerializeAs<String>, B: SerializeAs<u8>, C: SerializeAs<Vec<u32>>> Seria
 impl<A: DeserializeAs<String>, B: DeserializeAs<u8>, C: DeserializeAs<Vec<u32>>> DeserializeAs<
     Person,
 > for PersonAs<A, B, C> {
-    ghost use Rattle.std.specs.Prelude.{[], ◌∷◌, ◌^◌, false};
-    ghost use Rattle.sw_tree.specs.Meant.{IsText, IsBelow, IsListOf};
+    ghost use Rattle.std.specs.Prelude.{[], ◌∷◌, false, refl};
     ghost use Rattle.sw_core.specs.Parts.{reading};
     ghost use Rattle.sw_core.specs.Record.{record_reads, record_spot, record_skips};
+    ghost use Rattle.sw_core.specs.Laws.Parts.{read_by};
     ghost use Rattle.sw_core.specs.Laws.Record.{record_lawful};
     ghost use Rattle.sw_examples.specs.Person.{person_fields};
 
@@ -162,20 +166,19 @@ impl<A: DeserializeAs<String>, B: DeserializeAs<u8>, C: DeserializeAs<Vec<u32>>>
     ghost lawful_reading = { record_lawful
         false
         (person_fields (reading A.reads A.spot A.skips) (reading B.reads B.spot B.skips) (reading C.reads C.spot C.skips))
-        (IsText ∷ IsBelow (2 ^ 8) ∷ IsListOf (IsBelow (2 ^ 32)) ∷ [])
-        (A.lawful_reading, (B.lawful_reading, (C.lawful_reading, tt)))
+        (read_by A.skips A.lawful_reading ∷ read_by B.skips B.lawful_reading ∷ read_by C.skips C.lawful_reading ∷ [])
+        refl
         (tt, (tt, (tt, tt))) };
 }
 
 impl<A: Adapter<String>, B: Adapter<u8>, C: Adapter<Vec<u32>>> Adapter<Person>
     for PersonAs<A, B, C> {
-    ghost use Rattle.std.specs.Prelude.{[], ◌∷◌, ◌^◌, false, refl};
+    ghost use Rattle.std.specs.Prelude.{[], ◌∷◌, false, refl};
     ghost use Rattle.sw_check.specs.Form.{forms, fields};
     ghost use Rattle.sw_check.specs.declared.grade.Grade.TheVariants.{Exact};
-    ghost use Rattle.sw_tree.specs.Meant.{IsText, IsBelow, IsListOf};
     ghost use Rattle.sw_core.specs.Parts.{reading};
     ghost use Rattle.sw_core.specs.Record.{record_norm};
-    ghost use Rattle.sw_core.specs.Laws.Parts.{part};
+    ghost use Rattle.sw_core.specs.Laws.Parts.{kept};
     ghost use Rattle.sw_core.specs.Laws.Record.{record_keeps};
     ghost use Rattle.sw_examples.specs.Person.{person_fields};
 
@@ -197,12 +200,8 @@ impl<A: Adapter<String>, B: Adapter<u8>, C: Adapter<Vec<u32>>> Adapter<Person>
         false
         (person_fields (reading A.reads A.spot A.skips) (reading B.reads B.spot B.skips) (reading C.reads C.spot C.skips))
         refl
-        (part IsText A.writes (reading A.reads A.spot A.skips) A.expr A.norm A.assumes
-        ∷ part (IsBelow (2 ^ 8)) B.writes (reading B.reads B.spot B.skips) B.expr B.norm B.assumes
-        ∷ part (IsListOf (IsBelow (2 ^ 32))) C.writes (reading C.reads C.spot C.skips) C.expr C.norm C.assumes
-        ∷ [])
+        (kept A.keeps ∷ kept B.keeps ∷ kept C.keeps ∷ [])
         refl
         false
-        Exact
-        (A.keeps, (B.keeps, (C.keeps, tt))) };
+        Exact };
 }

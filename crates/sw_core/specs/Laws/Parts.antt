@@ -18,7 +18,7 @@ use Rattle.sw_check.specs.Form.{Form, Forms, no_forms, form}
 use Rattle.sw_check.specs.Grade.{grade, worst_of, is_exact}
 use Rattle.sw_check.specs.Laws.Sound.{AllSound}
 use Rattle.sw_check.specs.Laws.SoundForms.{exact_is, exact-worst}
-use Rattle.sw_elem.specs.Equations.{Writes, LawfulReading}
+use Rattle.sw_elem.specs.Equations.{Writes, Reads, Spots, Skips, LawfulReading}
 use Rattle.sw_elem.specs.Statements.{Norm, HasImages, ReadsBack, NeverKey, IsExact, HasSpotKinds, HasNoteKinds, WritesNodes, NormsWithin}
 use Rattle.sw_elem.specs.Lawful.{Lawful}
 use Rattle.sw_core.specs.Rows.{Reader}
@@ -43,6 +43,27 @@ AreReadings [] [] = Unit {0}
 AreReadings (P ∷ Ps) [] = ⊥
 AreReadings [] (x ∷ xs) = ⊥
 AreReadings (P ∷ Ps) (x ∷ xs) = IsReading P x × AreReadings Ps xs
+
+-- a reader with its law
+pub record Read : Type 1 where
+  pub is : Meaning → Type 0
+  pub by : Reading
+  pub law : IsReading is by
+
+abbrev pub read_by : {P : Meaning → Type 0} {r : Reads} {s : Spots} (k : Skips) → LawfulReading P r s → Read
+read_by {P} {r} {s} k h = record { is = P; by = reading r s k; law = h }
+
+abbrev pub meanings_of : List Read → List (Meaning → Type 0)
+meanings_of [] = []
+meanings_of (x ∷ xs) = x.is ∷ meanings_of xs
+
+abbrev pub readings_of : List Read → List Reading
+readings_of [] = []
+readings_of (x ∷ xs) = x.by ∷ readings_of xs
+
+pub are_lawful : (xs : List Read) → AreReadings (meanings_of xs) (readings_of xs)
+are_lawful [] = tt
+are_lawful (x ∷ xs) = (x.law, are_lawful xs)
 
 -- a refused node is one of the tree's
 abbrev pub IsInside : Mode → Reading → Type 0
@@ -129,6 +150,22 @@ norms_of (p ∷ ps) = p.norm ∷ norms_of ps
 abbrev pub All : List Part → Type 0
 All [] = Unit {0}
 All (p ∷ ps) = p.assumes × All ps
+
+-- an adapter with its laws
+pub record Kept : Type 1 where
+  pub part : Part
+  pub laws : IsPart part
+
+abbrev pub kept : {P : Meaning → Type 0} {w : Writes} {r : Reads} {s : Spots} {k : Skips} {e : Form} {n : Norm} {a : Type 0} → Lawful P w r s k e n a → Kept
+kept {P} {w} {r} {s} {k} {e} {n} {a} h = record { part = record { is = P; writes = w; by = reading r s k; expr = e; norm = n; assumes = a }; laws = h }
+
+abbrev pub parts_of : List Kept → List Part
+parts_of [] = []
+parts_of (x ∷ xs) = x.part ∷ parts_of xs
+
+pub are_kept : (xs : List Kept) → EachPart IsPart (parts_of xs)
+are_kept [] = tt
+are_kept (x ∷ xs) = (x.laws, are_kept xs)
 
 -- each part keeps what its laws say of it, where all are sound
 pub parts_sound : (m : Mode) (H : Part → Type 0) → ((p : Part) → IsPart p → IsSound p.expr m → H p) → (ps : List Part) → EachPart IsPart ps → AllSound (exprs_of ps) m → EachPart H ps

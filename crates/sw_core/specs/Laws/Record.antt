@@ -2,7 +2,7 @@
 use Rattle.std.specs.Prelude.{◌≡◌, ◌≤◌, ℕ, zero, suc, List, [], ◌∷◌, length, ◌||◌, ◌&&◌, not, Bool, true, false, cond, Option, Some, None, option_map, Result, Ok, Err}
 use Rattle.std.proofs.Common.{refl, ap, sym, ◌∙◌, subst, arith}
 use Rattle.std.specs.Option.{option_or, ok_or}
-use Rattle.std.specs.Str.{bytes_eq, is_utf8}
+use Rattle.std.specs.Str.{bytes_eq}
 use Rattle.std.proofs.lemmas.Str.{IsUtf8-from_is_utf8}
 use Rattle.sw_tree.specs.Building.{puts, within, with_put, IsBuilt, IsPut, BuildsMaps}
 use Rattle.sw_tree.specs.Image.{image}
@@ -41,10 +41,10 @@ use Rattle.sw_check.specs.declared.grade.Grade.{Grade}
 use Rattle.sw_elem.specs.Equations.{Writes, LawfulReading}
 use Rattle.sw_elem.specs.Lawful.{Lawful}
 use Rattle.sw_elem.specs.Statements.{HasImages, ReadsBack, NeverKey, IsUnmarked, IsExact, HasSpotKinds, HasNoteKinds, WritesNodes, NormsWithin}
-use Rattle.sw_core.specs.Fields.{Field, Slots, no_slots, collect, fields_make, IsFieldPut}
+use Rattle.sw_core.specs.Fields.{Field, Slots, no_slots, collect, IsFieldPut}
 use Rattle.sw_core.specs.Laws.Fields.{names_of, is_new, are_names, first_name, new_behind, same_name}
 use Rattle.sw_core.specs.Laws.Images.{entry_image, map-image}
-use Rattle.sw_core.specs.Laws.Parts.{HasKinds, HasNotes, AreReadings, IsInside, reading_kinds, reading_notes, all_inside, all_in-count, Part, IsPart, EachPart, are_of, writes_of, bys_of, exprs_of, norms_of, All, parts_sound, parts_keep, parts_read, parts_back, parts_exact, row_nodes, row_normed, IsImaged, IsReadBack, IsNeverKey, IsKept, row_imaged, row_back, row_count, row_never, row_exact, row_same}
+use Rattle.sw_core.specs.Laws.Parts.{HasKinds, HasNotes, AreReadings, Read, meanings_of, readings_of, are_lawful, reading_kinds, reading_notes, all_inside, all_in-count, Part, IsPart, EachPart, Kept, parts_of, are_kept, are_of, writes_of, bys_of, exprs_of, norms_of, All, parts_sound, parts_keep, parts_read, parts_back, parts_exact, row_nodes, row_normed, IsImaged, IsReadBack, IsNeverKey, IsKept, row_imaged, row_back, row_count, row_never, row_exact, row_same}
 use Rattle.sw_core.specs.Laws.Plans.{RefusesItself, plan_lawful, plan_spot_kinds, plan_note_kinds}
 use Rattle.sw_core.specs.Laws.Rows.{EachAt, Refuses, Notes, AreRead}
 use Rattle.sw_core.specs.Laws.Within.{within_ok, within_shallow, within_key}
@@ -55,9 +55,9 @@ use Rattle.sw_core.specs.Rows.{Reader, row_reads}
 
 -- ---- what holds of each field holds of the one that a key names
 
-abbrev pub readings_of : List Field → List Reading
-readings_of [] = []
-readings_of (f ∷ fs) = f.by ∷ readings_of fs
+abbrev pub fields_by : List Field → List Reading
+fields_by [] = []
+fields_by (f ∷ fs) = f.by ∷ fields_by fs
 
 -- of each with its number
 abbrev Numbered : (ℕ → Reading → Type 0) → List Reading → Type 0
@@ -81,12 +81,12 @@ wanted_here K true true x n h k = tt
 wanted_here K true false x n h k = h
 wanted_here K false b x n h k = k
 
-name_wanted : (K : ℕ → Reading → Type 0) (fs : List Field) (bs : List Bool) (s : List ℕ) → Numbered K (readings_of fs) → IsWanted K (name_of fs bs s)
+name_wanted : (K : ℕ → Reading → Type 0) (fs : List Field) (bs : List Bool) (s : List ℕ) → Numbered K (fields_by fs) → IsWanted K (name_of fs bs s)
 name_wanted K [] bs s h = tt
 name_wanted K (f ∷ fs) [] s h = tt
 name_wanted K (f ∷ fs) (b ∷ bs) s h = wanted_here K (bytes_eq s f.name) b f.by (next_key (name_of fs bs s)) h.0 (wanted_next K (name_of fs bs s) (name_wanted (λ i. K (suc i)) fs bs s h.1))
 
-key_wanted : (K : ℕ → Reading → Type 0) (fs : List Field) (bs : List Bool) (k : Tree) → Numbered K (readings_of fs) → IsWanted K (key_of fs bs k)
+key_wanted : (K : ℕ → Reading → Type 0) (fs : List Field) (bs : List Bool) (k : Tree) → Numbered K (fields_by fs) → IsWanted K (key_of fs bs k)
 key_wanted K fs bs (node.text s) h = name_wanted K fs bs s h
 key_wanted K fs bs _ h = tt
 
@@ -126,14 +126,14 @@ module _ (R : Reader Given → Tree → Type 0) (none : (t : Tree) → R gives_n
   at_value_of m unknown t h = none t
   at_value_of m repeated t h = none t
 
-  at_entries : (strict : Bool) (fs : List Field) (m : Mode) (bs : List Bool) → Numbered (IsAt m) (readings_of fs) → (es : List (Tree × Tree)) → EachAt R (keyed_by strict fs m bs (keys_of es)) (by_turns es)
+  at_entries : (strict : Bool) (fs : List Field) (m : Mode) (bs : List Bool) → Numbered (IsAt m) (fields_by fs) → (es : List (Tree × Tree)) → EachAt R (keyed_by strict fs m bs (keys_of es)) (by_turns es)
   at_entries strict fs m bs h [] = tt
   at_entries strict fs m bs h (e ∷ es) = (
     at_key_of strict (key_of fs bs e.0) e.0 (key_kind fs bs e.0),
     (at_value_of m (key_of fs bs e.0) e.1 (key_wanted (IsAt m) fs bs e.0 h), at_entries strict fs m (mark (key_of fs bs e.0) bs) h es),
   )
 
-  at_record : (strict : Bool) (fs : List Field) (m : Mode) → Numbered (IsAt (at_value m)) (readings_of fs) → (t : Tree) → EachAt R (record_plan strict fs m t).readers (children t)
+  at_record : (strict : Bool) (fs : List Field) (m : Mode) → Numbered (IsAt (at_value m)) (fields_by fs) → (t : Tree) → EachAt R (record_plan strict fs m t).readers (children t)
   at_record strict fs m h (node.map es) = at_entries strict fs (at_value m) (filled (no_slots fs)) h (pairs es)
   at_record strict fs m h _ = tt
 
@@ -163,17 +163,17 @@ module _ (Q : List Kind → Note → Type 0) (s : IsStable Q) where
   abbrev Refusing : Mode → Reading → Type 0
   Refusing m x = (t : Tree) → Refuses Q (in_mode m x) t
 
-  record_refuses : (strict : Bool) (fs : List Field) (m : Mode) → Each (Refusing (at_value m)) (readings_of fs) → (t : Tree) → EachAt (Refuses Q) (record_plan strict fs m t).readers (children t)
+  record_refuses : (strict : Bool) (fs : List Field) (m : Mode) → Each (Refusing (at_value m)) (fields_by fs) → (t : Tree) → EachAt (Refuses Q) (record_plan strict fs m t).readers (children t)
   record_refuses strict fs m h =
       let none : (t : Tree) → Refuses Q gives_none t = λ t e p. absurd (cc) in
       let refuses : (t : Tree) (e : DeError) → IsOwn t e → Refuses Q (refuses_key e) t = λ t e own d p. s.root t d (λ k i. own k (cc)) in
       at_record (Refuses Q) none refuses strict fs m
-      (numbered (IsAt (Refuses Q) none refuses (at_value m)) (Refusing (at_value m)) (λ i x k t e p. k t e (given_err i (x.reads (at_value m) t) e p)) (readings_of fs) h)
+      (numbered (IsAt (Refuses Q) none refuses (at_value m)) (Refusing (at_value m)) (λ i x k t e p. k t e (given_err i (x.reads (at_value m) t) e p)) (fields_by fs) h)
 
-record_notes : (Q : List Kind → Note → Type 0) (strict : Bool) (fs : List Field) (m : Mode) → Each (λ x. (t : Tree) → Notes Q (in_mode (at_value m) x) t) (readings_of fs) → (t : Tree) → EachAt (Notes Q) (record_plan strict fs m t).readers (children t)
+record_notes : (Q : List Kind → Note → Type 0) (strict : Bool) (fs : List Field) (m : Mode) → Each (λ x. (t : Tree) → Notes Q (in_mode (at_value m) x) t) (fields_by fs) → (t : Tree) → EachAt (Notes Q) (record_plan strict fs m t).readers (children t)
 record_notes Q strict fs m h =
     at_record (Notes Q) (λ t. tt) (λ t e own. tt) strict fs m
-    (numbered (IsAt (Notes Q) (λ t. tt) (λ t e own. tt) (at_value m)) (λ x. (t : Tree) → Notes Q (in_mode (at_value m) x) t) (λ i x k. k) (readings_of fs) h)
+    (numbered (IsAt (Notes Q) (λ t. tt) (λ t e own. tt) (at_value m)) (λ x. (t : Tree) → Notes Q (in_mode (at_value m) x) t) (λ i x k. k) (fields_by fs) h)
 
 -- ---- meanings
 
@@ -228,7 +228,7 @@ collected (Ok v) (Ok us) P Ps vs h k p = let e : (v ∷ us) ≡ vs = cc in subst
 collected (Ok v) (Err e) P Ps vs h k p = absurd (cc)
 collected (Err e) y P Ps vs h k p = absurd (cc)
 
-collect_is : (Ps : List (Meaning → Type 0)) (n : ℕ) (fs : List Field) (os : Slots) (vs : List Meaning) → AreReadings Ps (readings_of fs) → AreAbsent Ps fs → AreSlots Ps os → collect n fs os ≡ Ok vs → AreOf Ps (meanings vs)
+collect_is : (Ps : List (Meaning → Type 0)) (n : ℕ) (fs : List Field) (os : Slots) (vs : List Meaning) → AreReadings Ps (fields_by fs) → AreAbsent Ps fs → AreSlots Ps os → collect n fs os ≡ Ok vs → AreOf Ps (meanings vs)
 collect_is [] n [] os vs a b d p = let e : [] ≡ vs = cc in subst (λ (l : List Meaning). AreOf [] (meanings l)) e tt
 collect_is (P ∷ Ps) n [] os vs a b d p = absurd a
 collect_is [] n (f ∷ fs) os vs a b d p = absurd a
@@ -280,15 +280,15 @@ module _ (strict : Bool) (fs : List Field) where
   itself m (node.map es) gs e p = λ k i. absurd (collect_err 0 fs (fill (no_slots fs) gs) e (row_err (collect 0 fs (fill (no_slots fs) gs)) e p) k i)
   itself m _ gs e p = λ j i. cc
 
-  module _ (Ps : List (Meaning → Type 0)) (h : AreReadings Ps (readings_of fs)) (a : AreAbsent Ps fs) where
+  module _ (Ps : List (Meaning → Type 0)) (h : AreReadings Ps (fields_by fs)) (a : AreAbsent Ps fs) where
     gives : (m : Mode) (t : Tree) → EachAt (λ r u. (g : Given) → IsNodeTree u → r.reads u ≡ Ok g → IsGiven Ps g) (record_plan strict fs m t).readers (children t)
     gives m =
         let R = λ (r : Reader Given) (u : Tree). (g : Given) → IsNodeTree u → r.reads u ≡ Ok g → IsGiven Ps g in
         let none : (t : Tree) → R gives_none t = λ t g n p. let e : None ≡ g = cc in subst (IsGiven Ps) e tt in
         let refuses : (t : Tree) (e : DeError) → IsOwn t e → R (refuses_key e) t = λ t e own g n p. absurd (cc) in
         at_record R none refuses strict fs m
-        (renumbered (Gives (at_value m) Ps) (IsAt R none refuses (at_value m)) (readings_of fs)
-        (λ i x k t g n p. let q = given_ok i (x.reads (at_value m) t) g p in subst (IsGiven Ps) q.2 (k t q.0 n q.1)) (each_gives (at_value m) Ps (readings_of fs) h))
+        (renumbered (Gives (at_value m) Ps) (IsAt R none refuses (at_value m)) (fields_by fs)
+        (λ i x k t g n p. let q = given_ok i (x.reads (at_value m) t) g p in subst (IsGiven Ps) q.2 (k t q.0 n q.1)) (each_gives (at_value m) Ps (fields_by fs) h))
 
     meant : (m : Mode) (t : Tree) (gs : List Given) (v : Meaning) → Each IsNodeTree (children t) → AreRead (record_plan strict fs m t).readers (children t) gs → (record_plan strict fs m t).makes gs ≡ Ok v → IsRowOf Ps v
     meant m (node.map es) gs v n r q =
@@ -299,15 +299,18 @@ module _ (strict : Bool) (fs : List Field) where
         subst (IsRowOf Ps) e (collect_is Ps 0 fs (fill (no_slots fs) gs) c.0 h a k c.1)
     meant m _ gs v n r q = absurd (cc)
 
-    -- what is read is a row of the fields' meanings, and a refused node is one of the tree's
-    pub record_lawful : LawfulReading (IsRowOf Ps) (record_reads strict fs) (record_spot strict fs)
-    record_lawful = plan_lawful (record_plan strict fs) itself (IsRowOf Ps) meant (λ m. record_refuses IsBelow below-stable strict fs m (all_inside (at_value m) Ps (readings_of fs) h))
+    row_lawful : LawfulReading (IsRowOf Ps) (record_reads strict fs) (record_spot strict fs)
+    row_lawful = plan_lawful (record_plan strict fs) itself (IsRowOf Ps) meant (λ m. record_refuses IsBelow below-stable strict fs m (all_inside (at_value m) Ps (fields_by fs) h))
 
-  spot_kinds : (m : Mode) → Each (HasKinds (at_value m)) (readings_of fs) → HasSpotKinds (record_reads strict fs) (record_spot strict fs) m
-  spot_kinds m h = plan_spot_kinds (record_plan strict fs) itself m (record_refuses IsOfKind kind-stable strict fs m (each_of (HasKinds (at_value m)) (Refusing IsOfKind kind-stable (at_value m)) (reading_kinds (at_value m)) (readings_of fs) h))
+  -- what is read is a row of the fields' meanings, and a refused node is one of the tree's
+  pub record_lawful : (xs : List Read) → fields_by fs ≡ readings_of xs → AreAbsent (meanings_of xs) fs → LawfulReading (IsRowOf (meanings_of xs)) (record_reads strict fs) (record_spot strict fs)
+  record_lawful xs same a = row_lawful (meanings_of xs) (subst (AreReadings (meanings_of xs)) (sym same) (are_lawful xs)) a
 
-  note_kinds : (m : Mode) → Each (HasNotes (at_value m)) (readings_of fs) → HasNoteKinds (record_skips strict fs) m
-  note_kinds m h = plan_note_kinds (record_plan strict fs) m (record_notes IsNoteIn strict fs m (each_of (HasNotes (at_value m)) (λ x. (t : Tree) → Notes IsNoteIn (in_mode (at_value m) x) t) (reading_notes (at_value m)) (readings_of fs) h))
+  spot_kinds : (m : Mode) → Each (HasKinds (at_value m)) (fields_by fs) → HasSpotKinds (record_reads strict fs) (record_spot strict fs) m
+  spot_kinds m h = plan_spot_kinds (record_plan strict fs) itself m (record_refuses IsOfKind kind-stable strict fs m (each_of (HasKinds (at_value m)) (Refusing IsOfKind kind-stable (at_value m)) (reading_kinds (at_value m)) (fields_by fs) h))
+
+  note_kinds : (m : Mode) → Each (HasNotes (at_value m)) (fields_by fs) → HasNoteKinds (record_skips strict fs) m
+  note_kinds m h = plan_note_kinds (record_plan strict fs) m (record_notes IsNoteIn strict fs m (each_of (HasNotes (at_value m)) (λ x. (t : Tree) → Notes IsNoteIn (in_mode (at_value m) x) t) (reading_notes (at_value m)) (fields_by fs) h))
 
 -- ---- images
 
@@ -352,7 +355,7 @@ abbrev givens : ℕ → List Meaning → List Given
 givens n [] = []
 givens n (v ∷ vs) = None ∷ Some (n, v) ∷ givens (suc n) vs
 
-entries_read : (strict : Bool) (m : Mode) (fs : List Field) (bs : List Bool) (n : ℕ) (gs : List Field) → Stands fs bs n gs → are_names (names_of gs) ≡ true → (is : List Tree) (us : List Meaning) → AreRead (all_in m (readings_of gs)) is us →
+entries_read : (strict : Bool) (m : Mode) (fs : List Field) (bs : List Bool) (n : ℕ) (gs : List Field) → Stands fs bs n gs → are_names (names_of gs) ≡ true → (is : List Tree) (us : List Meaning) → AreRead (all_in m (fields_by gs)) is us →
     row_reads (keyed_by strict fs m bs (keys_of (named (names_of gs) is))) (by_turns (named (names_of gs) is)) ≡ Ok (givens n us)
 entries_read strict m fs bs n [] h d is [] a = refl
 entries_read strict m fs bs n [] h d is (u ∷ us) a = absurd a
@@ -373,13 +376,13 @@ fill_behind : (o : Option Meaning) (os : Slots) (n : ℕ) (us : List Meaning) �
 fill_behind o os n [] = refl
 fill_behind o os n (u ∷ us) = fill_behind o (put_at n u os) (suc n) us
 
-fill_all : (fs : List Field) (us : List Meaning) → length us ≡ length (readings_of fs) → fill (no_slots fs) (givens 0 us) ≡ somes us
+fill_all : (fs : List Field) (us : List Meaning) → length us ≡ length (fields_by fs) → fill (no_slots fs) (givens 0 us) ≡ somes us
 fill_all [] [] e = refl
 fill_all [] (u ∷ us) e = absurd (omega arith)
 fill_all (f ∷ fs) [] e = absurd (omega arith)
 fill_all (f ∷ fs) (u ∷ us) e = fill_behind (Some u) (no_slots fs) 0 us ∙ ap (λ (os : Slots). Some u ∷ os) (fill_all fs us (omega arith))
 
-collect_all : (n : ℕ) (fs : List Field) (us : List Meaning) → length us ≡ length (readings_of fs) → collect n fs (somes us) ≡ Ok us
+collect_all : (n : ℕ) (fs : List Field) (us : List Meaning) → length us ≡ length (fields_by fs) → collect n fs (somes us) ≡ Ok us
 collect_all n [] [] e = refl
 collect_all n [] (u ∷ us) e = absurd (omega arith)
 collect_all n (f ∷ fs) [] e = absurd (omega arith)
@@ -434,12 +437,12 @@ sound-fields : (ps : Forms) (listed : Bool) (own : Grade) (m : Mode) → IsSound
 sound-fields ps listed own m s = (sound-no_key (fields ps listed own) m s refl, sound-checked (fields ps listed own) m s)
 
 module _ (strict : Bool) (fs : List Field) (names : are_names (names_of fs) ≡ true) where
-  read_again : (m : Mode) (i : Tree) (is : List Tree) (us : List Meaning) → i ≡ make (names_of fs) is → AreRead (all_in (at_value m) (readings_of fs)) is us → length is ≡ length (readings_of fs) → record_reads strict fs m i ≡ Ok (row us)
+  read_again : (m : Mode) (i : Tree) (is : List Tree) (us : List Meaning) → i ≡ make (names_of fs) is → AreRead (all_in (at_value m) (fields_by fs)) is us → length is ≡ length (fields_by fs) → record_reads strict fs m i ≡ Ok (row us)
   read_again m i is us e a n =
-      let k = all_in-count (at_value m) (readings_of fs) is us a n in
+      let k = all_in-count (at_value m) (fields_by fs) is us a n in
       rw (e, pairs-entries (named (names_of fs) is), entries_read strict (at_value m) fs (filled (no_slots fs)) 0 fs (refl, refl) names is us a, fill_all fs us k, collect_all 0 fs us k) refl
 
-  module _ (ps : List Part) (same : readings_of fs ≡ bys_of ps) where
+  module _ (ps : List Part) (same : fields_by fs ≡ bys_of ps) where
     abbrev Is : Meaning → Type 0
     Is = IsRowOf (are_of ps)
 
@@ -505,10 +508,9 @@ module _ (strict : Bool) (fs : List Field) (names : are_names (names_of fs) ≡ 
     norms h m (list vs) a = row_normed (at_value m) ps h (parts vs) (subst (AreOf (are_of ps)) (sym (meanings-parts vs)) a)
     norms h m _ a = absurd a
 
-    -- `listed` and `own` are the record's: whether a list is read too, and its own grade
-    pub record_keeps : (listed : Bool) (own : Grade) → EachPart IsPart ps →
+    row_keeps : (listed : Bool) (own : Grade) → EachPart IsPart ps →
         Lawful Is writes (record_reads strict fs) (record_spot strict fs) (record_skips strict fs) (fields (exprs_of ps) listed own) (record_norm (norms_of ps)) (All ps)
-    record_keeps listed own h =
+    row_keeps listed own h =
         record {
           images = λ m s. let c = sound-fields (exprs_of ps) listed own m s in imaged m (parts_sound (at_value m) (IsImaged (at_value m)) (λ p k i. k.images (at_value m) i) ps h c.1) c.0;
           back = λ a m s.
@@ -524,3 +526,12 @@ module _ (strict : Bool) (fs : List Field) (names : are_names (names_of fs) ≡ 
           nodes = nodes (parts_keep IsPart (λ p. WritesNodes p.is p.writes) (λ p k. k.nodes) ps h);
           norms = norms (parts_keep IsPart (λ p. NormsWithin p.is p.norm) (λ p k. k.norms) ps h);
         }
+
+  module _ (xs : List Kept) (same : fields_by fs ≡ bys_of (parts_of xs)) where
+    abbrev ps : List Part
+    ps = parts_of xs
+
+    -- `listed` and `own` are the record's: whether a list is read too, and its own grade
+    pub record_keeps : (listed : Bool) (own : Grade) →
+        Lawful (IsRowOf (are_of ps)) (record_writes (names_of fs) (writes_of ps)) (record_reads strict fs) (record_spot strict fs) (record_skips strict fs) (fields (exprs_of ps) listed own) (record_norm (norms_of ps)) (All ps)
+    record_keeps listed own = row_keeps (parts_of xs) same listed own (are_kept xs)
