@@ -6,7 +6,6 @@ pub mod Fitting
 pub mod Foreigns
 pub mod Gathered
 pub mod GrowLemmas
-pub mod HashedLemmas
 pub mod ImageLemmas
 pub mod KindsLemmas
 pub mod Lists

@@ -6,7 +6,7 @@ use Rattle.std.proofs.Common.{ap, sym, ◌∙◌, subst}
 use Rattle.sw_tree.specs.Meaning.{Meaning}
 use Rattle.sw_tree.specs.Ranks.{Order, Ranks, TellsApart, IsOrderOf}
 use Rattle.sw_tree.specs.SameMeaning.{TellsSame, HashesAlike}
-use Rattle.sw_tree.proofs.HashedLemmas.{equal_from_level}
+use Rattle.sw_tree.specs.Laws.Hashed.{equal_from_level}
 
 module _ {T : Type 0} (eq : T → T → Bool) (cmp : T → T → Ordering) (f : T → Meaning) (P : Meaning → Type 0) (R : Order)
     (ties : (x y : T) → eq x y ≡ is_eq (cmp x y)) (o : IsOrderOf cmp f R) (ranks : Ranks P R) (apart : TellsApart P R) where

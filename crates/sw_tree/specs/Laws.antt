@@ -3,6 +3,7 @@ pub mod CharRanks
 pub mod DocWriter
 pub mod Foreign
 pub mod Formed
+pub mod Hashed
 pub mod Held
 pub mod Each
 pub mod Logs

@@ -1,4 +1,4 @@
--- What is inserted into a hashed map or set is inserted into its entries or keys in order.
+-- An insertion into a hashed map or set is one into its entries or keys in order.
 use Rattle.std.specs.Prelude.{◌≡◌, List, [], ◌∷◌, IsPermutation, Contains, ◌⊎◌, false, ◌++◌, true, Bool, cond, Option, Some, None, MatchOption, not, ◌||◌}
 use Rattle.std.specs.Bool.{MatchBool}
 use Rattle.std.specs.List.{AllByRecursion, IsDistinct, list_any}
@@ -62,10 +62,10 @@ clash r p q = cc
 -- ---- lists of which no two compare equal, in order
 module _ {A : Type 0} (R : A → A → Ordering) where
   -- none compares equal to x
-  abbrev pub Apart : A → List A → Type 0
+  abbrev Apart : A → List A → Type 0
   Apart x ys = Each (λ y. is_eq (R x y) ≡ false) ys
 
-  abbrev pub AllApart : List A → Type 0
+  abbrev AllApart : List A → Type 0
   AllApart [] = Unit {0}
   AllApart (x ∷ xs) = Apart x xs × AllApart xs
 
@@ -192,7 +192,7 @@ module _ {A : Type 0} (R : A → A → Ordering) (o : IsTotalOrder R) where
     sorted_ascends es d = all_ascends [] es tt (none_across es) d
 
     -- the order in which they are put makes no difference
-    pub sorted-permuted : (es fs : List A) → IsPermutation es fs → AllApart R es → sorted R join es ≡ sorted R join fs
+    sorted-permuted : (es fs : List A) → IsPermutation es fs → AllApart R es → sorted R join es ≡ sorted R join fs
     sorted-permuted es fs p d =
         let k = apart_permuted es fs p d in
         ascending_same (sorted R join es) (sorted R join fs) (sorted_ascends es d) (sorted_ascends fs k)
@@ -200,7 +200,7 @@ module _ {A : Type 0} (R : A → A → Ordering) (o : IsTotalOrder R) where
         (λ z m. sorted_in es d z (has_permuted fs es z (IsPermutation-sym es fs p) (sorted_out fs k z m)))
 
     -- a list that has one more
-    pub put-fresh : (x : A) (es fs : List A) → IsPermutation (x ∷ es) fs → AllApart R fs → sorted R join fs ≡ put R join (sorted R join es) x
+    put-fresh : (x : A) (es fs : List A) → IsPermutation (x ∷ es) fs → AllApart R fs → sorted R join fs ≡ put R join (sorted R join es) x
     put-fresh x es fs p k =
         let back = IsPermutation-sym (x ∷ es) fs p in
         let d = apart_permuted fs (x ∷ es) back k in
@@ -229,7 +229,7 @@ module _ {A : Type 0} (R : A → A → Ordering) (o : IsTotalOrder R) where
           ∙ ap (λ r. match_ordering r (join x y ∷ e ∷ es) (join e (join x y) ∷ es) (e ∷ put R join es (join x y))) (sym (left x y e))
 
       -- a list in which one is joined with another that compares equal
-      pub put-tied : (before after : List A) (x y : A) → AllApart R (before ++ x ∷ after) → AllApart R (before ++ join x y ∷ after) → R y x ≡ Equal
+      put-tied : (before after : List A) (x y : A) → AllApart R (before ++ x ∷ after) → AllApart R (before ++ join x y ∷ after) → R y x ≡ Equal
           → sorted R join (before ++ join x y ∷ after) ≡ put R join (sorted R join (before ++ x ∷ after)) y
       put-tied before after x y h k q =
           let one : (z : A) → IsPermutation (z ∷ (before ++ after)) (before ++ z ∷ after) = λ z. IsPermutation-sym (before ++ z ∷ after) (z ∷ (before ++ after)) (IsPermutation-middle before z after) in
@@ -309,7 +309,7 @@ module _ {K X : Type 0} where
       total = on_total (λ (e : K × X). e.0) o
 
       -- hashed maps that differ by the order of their entries alone mean the same
-      pub sort_onto-permuted : (es fs : List (K × X)) → IsPermutation es fs → IsDistinct eq (keys_of es) → sort_onto cmp [] es ≡ sort_onto cmp [] fs
+      sort_onto-permuted : (es fs : List (K × X)) → IsPermutation es fs → IsDistinct eq (keys_of es) → sort_onto cmp [] es ≡ sort_onto cmp [] fs
       sort_onto-permuted es fs p d = entries-put_all [] es ∙ sorted-permuted by_key total new_value es fs p (entries_apart es d) ∙ sym (entries-put_all [] fs)
 
       in_entries : (es fs : List (K × X)) (k : K) (v : X) → sorted by_key new_value fs ≡ put by_key new_value (sorted by_key new_value es) (k, v) → sort_onto cmp [] fs ≡ insert_entry cmp (sort_onto cmp [] es) k v
@@ -372,7 +372,7 @@ module _ {K : Type 0} where
           each (d ∷ ds) n = (sym (ties k d) ∙ n.0, each ds n.1)
 
       -- hashed sets that differ by the order of their keys alone mean the same
-      pub sort_keys_onto-permuted : (ks ls : List K) → IsPermutation ks ls → IsDistinct eq ks → sort_keys_onto cmp [] ks ≡ sort_keys_onto cmp [] ls
+      sort_keys_onto-permuted : (ks ls : List K) → IsPermutation ks ls → IsDistinct eq ks → sort_keys_onto cmp [] ks ≡ sort_keys_onto cmp [] ls
       sort_keys_onto-permuted ks ls p d = keys-put_all [] ks ∙ sorted-permuted cmp o key_stays ks ls p (keys_apart ks d) ∙ sym (keys-put_all [] ls)
 
       in_keys : (ks ls : List K) (k : K) → sorted cmp key_stays ls ≡ put cmp key_stays (sorted cmp key_stays ks) k → sort_keys_onto cmp [] ls ≡ insert_key cmp (sort_keys_onto cmp [] ks) k
