@@ -4,5 +4,7 @@ pub mod Places
 pub mod Children
 pub mod Putting
 pub mod InOrder
+pub mod Lent
+pub mod Hashing
 pub mod Recoding
 pub mod Again

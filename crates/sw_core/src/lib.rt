@@ -12,6 +12,8 @@ pub mod entries;
 pub mod faithful;
 pub mod formats;
 pub mod free;
+pub mod hashed_map;
+pub mod hashed_set;
 pub mod linked;
 pub mod option;
 pub mod ordered_map;
