@@ -18,6 +18,7 @@ pub mod linked;
 pub mod option;
 pub mod ordered_map;
 pub mod ordered_set;
+pub mod pair_list;
 pub mod recode;
 pub mod same;
 pub mod token;
