@@ -2,6 +2,7 @@ pub mod Iterated
 pub mod Rows
 pub mod Places
 pub mod Children
+pub mod FirstEntry
 pub mod Putting
 pub mod InOrder
 pub mod Lent

@@ -9,6 +9,7 @@ pub mod Images
 pub mod Vec
 pub mod Option
 pub mod Entries
+pub mod OptionalPair
 pub mod OrderedMap
 pub mod Set
 pub mod Display

@@ -4,6 +4,7 @@ pub mod Parts
 pub mod Vec
 pub mod Option
 pub mod Entries
+pub mod OptionalPair
 pub mod OrderedMap
 pub mod Set
 pub mod Display

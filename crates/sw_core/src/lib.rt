@@ -16,6 +16,7 @@ pub mod hashed_map;
 pub mod hashed_set;
 pub mod linked;
 pub mod option;
+pub mod optional_pair;
 pub mod ordered_map;
 pub mod ordered_set;
 pub mod pair_list;
