@@ -1,5 +1,5 @@
 -- What is put in while an iterator gives the values, and which values std's iterators give.
-use Rattle.std.proofs.Common.{◌≡◌, List, [], ◌∷◌, ◌++◌, append_assoc, append-nil, length, MatchOption, Option, Some, None, Result, Ok, Err, Bor, refl, ap, sym, subst, ◌∙◌, arith}
+use Rattle.std.proofs.Common.{◌≡◌, List, [], ◌∷◌, ◌++◌, append_assoc, append-nil, length, map, MatchOption, Option, Some, None, Result, Ok, Err, Bor, refl, ap, sym, subst, ◌∙◌, arith}
 use Rattle.std.specs.Map.Iter.{TakesFirst, deref}
 use Rattle.std.specs.Result.{IsErrAnd}
 use Rattle.sw_tree.specs.Building.{puts, IsBuilt}
@@ -99,6 +99,14 @@ list_iterates {A} {X} shows = iterates shows (TakesFirst shows) (λ s. s) steps
     steps : (s : List X) (r : Option A) (t : List X) → TakesFirst shows s r t → ShowsFirst shows (TakesFirst shows) (λ u. u) s r t
     steps s None t g = g.0
     steps s (Some a) t g = g
+
+-- one whose state is the list of what is left, itself lent
+pub lent_iterates : {X : Type 0} (xs : List X) (s : List (Bor X)) → map deref s ≡ xs → Iterates deref (TakesFirst (λ (x : Bor X). x)) xs s
+lent_iterates {X} = iterates deref (TakesFirst (λ (x : Bor X). x)) (map deref) steps
+  where
+    steps : (s : List (Bor X)) (r : Option (Bor X)) (t : List (Bor X)) → TakesFirst (λ (x : Bor X). x) s r t → ShowsFirst deref (TakesFirst (λ (x : Bor X). x)) (map deref) s r t
+    steps s None t g = ap (map deref) g.0
+    steps s (Some a) t g = ap (map deref) g
 
 module _ {S X : Type 0} (rest : S → List X) where
   -- one that leaves its state as it is where nothing is left, as those over slices and queues

@@ -3,9 +3,12 @@ pub mod Rows
 pub mod Places
 pub mod Children
 pub mod Keyed
+pub mod FirstEntry
 pub mod Putting
 pub mod InTurn
 pub mod Filling
 pub mod InOrder
+pub mod Lent
+pub mod Hashing
 pub mod Recoding
 pub mod Again

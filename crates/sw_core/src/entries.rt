@@ -111,7 +111,7 @@ fn read_each_entry<T: Meant, U: Meant, K: DeserializeAs<T>, V: DeserializeAs<U>>
 }
 
 /// Reads the key, then the value.
-fn read_entry<T: Meant, U: Meant, K: DeserializeAs<T>, V: DeserializeAs<U>>(
+pub(crate) fn read_entry<T: Meant, U: Meant, K: DeserializeAs<T>, V: DeserializeAs<U>>(
     alloc: Global,
     key: View<'_>,
     value: View<'_>,

@@ -4,7 +4,7 @@ use crate::free::{
     are_copies_free, are_leaves_free, are_parsed_leaves_free, is_list_free, is_parsed_text_free,
 };
 use crate::same::Same;
-use std::collections::BTreeMap;
+use std::collections::{BTreeMap, HashMap, HashSet};
 
 #[test]
 fn what_is_copied_takes_memory(rt: HostRuntime) {
@@ -23,6 +23,10 @@ fn a_number_alone_is_read_without_memory(rt: HostRuntime) {
     assert!(rt; !<Vec<DisplayFromStr> as DeserializeAs<Vec<u32>>>::FREE);
     assert!(rt; !<Box<Same> as DeserializeAs<Box<u8>>>::FREE);
     assert!(rt; !<BTreeMap<Same, Same> as DeserializeAs<BTreeMap<u8, u8>>>::FREE);
+    assert!(rt; !<HashMap<Same, Same> as DeserializeAs<HashMap<u8, u8>>>::FREE);
+    assert!(rt; !<HashSet<Same> as DeserializeAs<HashSet<u8>>>::FREE);
+    assert!(rt; !<HashMap<Same, Same> as DeserializeAs<Vec<(u8, u8)>>>::FREE);
+    assert!(rt; !<BTreeMap<Same, Same> as DeserializeAs<Option<(u8, u8)>>>::FREE);
     assert!(rt; <Option<Same> as DeserializeAs<Option<u8>>>::FREE);
     assert!(rt; !<Option<Same> as DeserializeAs<Option<String>>>::FREE);
 }
