@@ -1,0 +1,2 @@
+pub mod NonZero
+pub mod Laws
