@@ -3,6 +3,7 @@ pub mod Rows
 pub mod Places
 pub mod Children
 pub mod Keyed
+pub mod Tagging
 pub mod FirstEntry
 pub mod Putting
 pub mod InTurn

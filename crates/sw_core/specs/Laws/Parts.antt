@@ -22,7 +22,7 @@ use Rattle.sw_elem.specs.Equations.{Writes, Reads, Spots, Skips, LawfulReading}
 use Rattle.sw_elem.specs.Statements.{Norm, HasImages, ReadsBack, NeverKey, IsExact, HasSpotKinds, HasNoteKinds, WritesNodes, NormsWithin}
 use Rattle.sw_elem.specs.Lawful.{Lawful}
 use Rattle.sw_core.specs.Rows.{Reader}
-use Rattle.sw_core.specs.Parts.{Reading, in_mode, all_in, row_writes, row_norm}
+use Rattle.sw_core.specs.Parts.{Reading, reading, in_mode, all_in, row_writes, row_norm}
 use Rattle.sw_core.specs.Laws.Rows.{AreRead, EachAt, Refuses, Notes, reader_below, reader_kinds, reader_notes}
 
 -- ---- parts that are read
