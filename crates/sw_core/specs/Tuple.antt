@@ -20,12 +20,12 @@ tuple_writes ws m (list vs) = bind (row_writes ws (at_value m) (parts vs)) (λ t
 tuple_writes ws m v = Ok node.null
 
 -- what was read, where as many items were found as are wanted
-abbrev pub made : ℕ → ℕ → List Meaning → Result Meaning DeError
-made wanted found vs = cond (found == wanted) (Ok (row vs)) (Err (fail.InvalidLength found))
+abbrev pub tuple_made : ℕ → ℕ → List Meaning → Result Meaning DeError
+tuple_made wanted found vs = cond (found == wanted) (Ok (row vs)) (Err (fail.InvalidLength found))
 
 -- the items in order, as far as there are parts for them
 abbrev pub tuple_plan : List Reading → Plans Meaning
-tuple_plan xs m (node.list ts) = record { readers = all_in (at_value m) xs; makes = made (length xs) (length (items ts)) }
+tuple_plan xs m (node.list ts) = record { readers = all_in (at_value m) xs; makes = tuple_made (length xs) (length (items ts)) }
 tuple_plan xs m t = refused (fail.InvalidType (kind_of t))
 
 abbrev pub tuple_reads : List Reading → Reads

@@ -44,4 +44,5 @@ fn an_array_is_free_where_its_part_is(rt: HostRuntime) {
     assert!(rt; <[Same; 3] as DeserializeAs<[u8; 3]>>::FREE);
     assert!(rt; <[[Same; 2]; 3] as DeserializeAs<[[u8; 2]; 3]>>::FREE);
     assert!(rt; <[(Same, Same); 3] as DeserializeAs<[(u8, u8); 3]>>::FREE);
+    assert!(rt; !is_list_free::<[u8; 3], [Same; 3]>());
 }
