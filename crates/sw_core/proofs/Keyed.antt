@@ -14,7 +14,6 @@ use Rattle.sw_tree.specs.declared.mode.Mode.{Mode}
 use Rattle.sw_tree.specs.declared.fail.DeError.{DeError}
 use Rattle.sw_tree.specs.declared.fail.DeError.TheVariants as fail
 use Rattle.sw_tree.specs.declared.fail.DeFail.{DeFail}
-use Rattle.sw_tree.specs.declared.fail.DeFail.TheVariants as de
 use Rattle.sw_tree.specs.declared.fail.Refusal.{Refusal}
 use Rattle.sw_elem.specs.Answers.{IsRead, IsLogged}
 use Rattle.sw_core.proofs.Places.{plan-placed, plan-logged, turns-row}

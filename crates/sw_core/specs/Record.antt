@@ -15,7 +15,7 @@ use Rattle.sw_tree.specs.declared.fail.DeError.TheVariants as fail
 use Rattle.sw_elem.specs.Equations.{Writes, Reads, Spots, Skips}
 use Rattle.sw_elem.specs.Statements.{Norm}
 use Rattle.sw_core.specs.Fields.{Field, Slots, no_slots, fields_make}
-use Rattle.sw_core.specs.Parts.{Reading, in_mode, row_writes, row_norm}
+use Rattle.sw_core.specs.Parts.{Reading, row_writes, row_norm}
 use Rattle.sw_core.specs.Plans.{Plans, refused, plan_reads, plan_spot, plan_skips}
 use Rattle.sw_core.specs.Rows.{Reader}
 

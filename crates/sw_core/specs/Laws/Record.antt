@@ -1,10 +1,9 @@
 -- The laws of a record, from its fields'.
-use Rattle.std.specs.Prelude.{◌≡◌, ◌≤◌, ℕ, zero, suc, List, [], ◌∷◌, length, ◌||◌, ◌&&◌, not, Bool, true, false, cond, Option, Some, None, option_map, Result, Ok, Err}
+use Rattle.std.specs.Prelude.{◌≡◌, ◌≤◌, ℕ, zero, suc, List, [], ◌∷◌, length, ◌||◌, ◌&&◌, Bool, true, false, cond, Option, Some, None, option_map, Result, Ok, Err}
 use Rattle.std.proofs.Common.{refl, ap, sym, ◌∙◌, subst, arith}
 use Rattle.std.specs.Option.{option_or, ok_or}
 use Rattle.std.specs.Str.{bytes_eq}
-use Rattle.std.proofs.lemmas.Str.{IsUtf8-from_is_utf8}
-use Rattle.sw_tree.specs.Building.{puts, within, with_put, IsBuilt, IsPut, BuildsMaps}
+use Rattle.sw_tree.specs.Building.{puts, within, IsBuilt, IsPut, BuildsMaps}
 use Rattle.sw_tree.specs.Image.{image}
 use Rattle.sw_tree.specs.Kinds.{is_kind}
 use Rattle.sw_tree.specs.Meaning.{Meaning, list, meanings, parts}
@@ -400,7 +399,7 @@ named_nodes [] ts d h = tt
 named_nodes (s ∷ ss) [] d h = tt
 named_nodes (s ∷ ss) (t ∷ ts) d h =
     let c = first_name s ss d in
-    let name : IsNodeTree (node.text s) = record { proper = IsUtf8-from_is_utf8 s c.0; shallow = omega arith } in
+    let name : IsNodeTree (node.text s) = record { proper = c.0; shallow = omega arith } in
     ((name, h.0), named_nodes ss ts c.2 h.1)
 
 -- ---- a record that is written field by field
