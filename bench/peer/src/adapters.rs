@@ -125,6 +125,63 @@ impl<K: Ord, V, A: Holds<K> + Ord, B: Holds<V>> Holds<BTreeMap<K, V>> for BTreeM
     }
 }
 
+macro_rules! tuples {
+    ($(($($a:ident $t:ident $i:tt),+))*) => {$(
+        impl<$($t, $a: Holds<$t>),+> Holds<($($t,)+)> for ($($a,)+) {
+            fn of(value: ($($t,)+)) -> Self {
+                ($($a::of(value.$i),)+)
+            }
+            fn value(self) -> ($($t,)+) {
+                ($(self.$i.value(),)+)
+            }
+        }
+    )*};
+}
+
+tuples! {
+    (A T 0)
+    (A T 0, B U 1)
+    (A T 0, B U 1, C V 2)
+    (A T 0, B U 1, C V 2, D W 3, E X 4, F Y 5, G Z 6, H Q 7)
+}
+
+impl<T, A: Holds<T>, const N: usize> Holds<[T; N]> for [A; N] {
+    fn of(value: [T; N]) -> Self {
+        value.map(A::of)
+    }
+    fn value(self) -> [T; N] {
+        self.map(A::value)
+    }
+}
+
+/// At most one pair as a map.
+pub struct AtMostOne<A, B>(Option<(A, B)>);
+
+impl<K, V, A: Holds<K>, B: Holds<V>> Holds<Option<(K, V)>> for AtMostOne<A, B> {
+    fn of(value: Option<(K, V)>) -> Self {
+        AtMostOne(value.map(|(key, value)| (A::of(key), B::of(value))))
+    }
+    fn value(self) -> Option<(K, V)> {
+        self.0.map(|(key, value)| (key.value(), value.value()))
+    }
+}
+
+impl<A: Serialize, B: Serialize> Serialize for AtMostOne<A, B> {
+    fn serialize<S: Serializer>(&self, serializer: S) -> Result<S::Ok, S::Error> {
+        serializer.collect_map(self.0.iter().map(|(key, value)| (key, value)))
+    }
+}
+
+impl<'de, A: Deserialize<'de>, B: Deserialize<'de>> Deserialize<'de> for AtMostOne<A, B> {
+    fn deserialize<D: Deserializer<'de>>(deserializer: D) -> Result<Self, D::Error> {
+        let mut pairs = Pairs::<A, B>::deserialize(deserializer)?.0;
+        match pairs.len() {
+            0 | 1 => Ok(AtMostOne(pairs.pop())),
+            _ => Err(D::Error::custom("more than one entry")),
+        }
+    }
+}
+
 /// A list of pairs as a map.
 pub struct Pairs<A, B>(Vec<(A, B)>);
 

@@ -1,6 +1,6 @@
 //! The nests by their names in `sw_examples`.
 
-use crate::adapters::{Aside, Choice, Holds, Pairs, PreferMany, PreferOne, Same, Shown};
+use crate::adapters::{Aside, AtMostOne, Choice, Holds, Pairs, PreferMany, PreferOne, Same, Shown};
 use serde::{de::DeserializeOwned, Serialize};
 use serde_json::Value;
 use std::collections::{BTreeMap, BTreeSet, LinkedList, VecDeque};
@@ -20,6 +20,8 @@ type Many = Vec<Vec<Same<u8>>>;
 type Lists = Vec<Vec<u8>>;
 type Number = Same<u64>;
 type Text = Shown<u64>;
+type EightSame = (Same<u8>, Same<u8>, Same<u8>, Same<u8>, Same<u8>, Same<u8>, Same<u8>, Same<u8>);
+type EightBytes = (u8, u8, u8, u8, u8, u8, u8, u8);
 type Flags = Pairs<Same<u32>, Same<bool>>;
 type ByChoice = Pairs<Choice<Same<u32>, Same<u32>>, Same<bool>>;
 type ByList = Pairs<Vec<Same<u32>>, Same<u32>>;
@@ -134,6 +136,27 @@ pub fn answer(nest: &str, text: &str) -> Option<String> {
             apart::<Choice<Many, One>, Many, Lists>(text)
         }
         "PersonAs<Same, Same, Vec<DisplayFromStr>> of Person" => again::<Person, Person>(text),
+        "(Same,) of (u8,)" => again::<(Same<u8>,), (u8,)>(text),
+        "(Same, DisplayFromStr) of (u8, u32)" => again::<(Same<u8>, Shown<u32>), (u8, u32)>(text),
+        "(Same, DisplayFromStr, Same) of (u8, u32, bool)" => {
+            again::<(Same<u8>, Shown<u32>, Same<bool>), (u8, u32, bool)>(text)
+        }
+        "eight of Same of eight bytes" => again::<EightSame, EightBytes>(text),
+        "[Same; 3] of [u32; 3]" => again::<[Same<u32>; 3], [u32; 3]>(text),
+        "Option<(Same, Same)> of Option<(u32, u32)>" => {
+            again::<Option<(Same<u32>, Same<u32>)>, Option<(u32, u32)>>(text)
+        }
+        // Written in the order of the keys or items, as a hashed map or set of ours is.
+        "HashMap<Same, Same> of HashMap<u32, u32>" => {
+            again::<BTreeMap<Same<u32>, Same<u32>>, BTreeMap<u32, u32>>(text)
+        }
+        "HashSet<DisplayFromStr> of HashSet<u32>" => again::<BTreeSet<Shown<u32>>, BTreeSet<u32>>(text),
+        "BTreeMap<Same, Same> of Vec<(u32, u32)>" | "HashMap<Same, Same> of Vec<(u32, u32)>" => {
+            again::<Pairs<Same<u32>, Same<u32>>, Vec<(u32, u32)>>(text)
+        }
+        "BTreeMap<Same, Same> of Option<(u32, u32)>" | "HashMap<Same, Same> of Option<(u32, u32)>" => {
+            again::<AtMostOne<Same<u32>, Same<u32>>, Option<(u32, u32)>>(text)
+        }
         _ => panic!("no nest {nest}"),
     }
 }

@@ -1,9 +1,11 @@
 //! Values of one of two variants, or of a third without a value: what names the variant, and how one is written.
 #![tactic(auto, using(sw_tree::specs::Laws::Logs::gains))]
 
+ghost use Rattle.std.specs.Prelude.{◌≡◌, [], ◌∷◌, Some};
 ghost use Rattle.sw_tree.specs.Building.{IsPut};
 ghost use Rattle.sw_tree.specs.Mode.{at_value};
 ghost use Rattle.sw_tree.specs.Inner.View.{seen};
+ghost use Rattle.sw_tree.specs.Seen.{Seen, entries_seen};
 ghost use Rattle.sw_core.specs.Tagged.{case_writes};
 ghost use Rattle.sw_core.specs.Inner.Tagged.{IsTag};
 
@@ -70,7 +72,9 @@ pub(crate) fn tag_of<'a, N: Tags>(view: View<'a>) -> Result<Tag<'a>, DeFail>
 }
 
 /// The variant that the key of the one entry names.
-fn entry_tag<'a, N: Tags>(key: View<'a>, value: View<'a>) -> Result<Tag<'a>, DeFail> {
+fn entry_tag<'a, N: Tags>(key: View<'a>, value: View<'a>) -> Result<Tag<'a>, DeFail>
+    ensures { (s : Seen) → Some ((seen key.entry, seen value.entry) ∷ []) ≡ entries_seen s → IsTag N.names s result }
+{
     let Some(name) = key.as_text() else {
         return Err(refused_at(key, DeError::InvalidType(key.kind())));
     };

@@ -41,7 +41,8 @@ impl<T: Meant, A: DeserializeAs<T>> DeserializeAs<(T,)> for (A,) {
     ghost use Rattle.std.specs.Prelude.{[], ◌∷◌};
     ghost use Rattle.sw_core.specs.Parts.{reading};
     ghost use Rattle.sw_core.specs.Tuple.{tuple_reads, tuple_spot, tuple_skips};
-    ghost use Rattle.sw_core.specs.Laws.Tuple.{read_by, tuple_lawful};
+    ghost use Rattle.sw_core.specs.Laws.Parts.{read_by};
+    ghost use Rattle.sw_core.specs.Laws.Tuple.{tuple_lawful};
 
     const FREE: bool = A::FREE;
 
@@ -72,7 +73,8 @@ impl<T: Meant, A: Adapter<T>> Adapter<(T,)> for (A,) {
     ghost use Rattle.std.specs.Prelude.{[], ◌∷◌};
     ghost use Rattle.sw_check.specs.Form.{tuple, forms};
     ghost use Rattle.sw_core.specs.Tuple.{tuple_norm, tuple_assumes};
-    ghost use Rattle.sw_core.specs.Laws.Tuple.{kept, tuple_keeps};
+    ghost use Rattle.sw_core.specs.Laws.Parts.{kept};
+    ghost use Rattle.sw_core.specs.Laws.Tuple.{tuple_keeps};
 
     ghost expr = { tuple (forms (A.expr ∷ [])) };
 
@@ -110,7 +112,8 @@ impl<T: Meant, U: Meant, A: DeserializeAs<T>, B: DeserializeAs<U>> DeserializeAs
     ghost use Rattle.std.specs.Prelude.{[], ◌∷◌, ◌&&◌};
     ghost use Rattle.sw_core.specs.Parts.{reading};
     ghost use Rattle.sw_core.specs.Tuple.{tuple_reads, tuple_spot, tuple_skips};
-    ghost use Rattle.sw_core.specs.Laws.Tuple.{read_by, pair_lawful};
+    ghost use Rattle.sw_core.specs.Laws.Parts.{read_by};
+    ghost use Rattle.sw_core.specs.Laws.Tuple.{pair_lawful};
 
     const FREE: bool = A::FREE && B::FREE;
 
@@ -140,7 +143,8 @@ impl<T: Meant, U: Meant, A: Adapter<T>, B: Adapter<U>> Adapter<(T, U)> for (A, B
     ghost use Rattle.std.specs.Prelude.{[], ◌∷◌};
     ghost use Rattle.sw_check.specs.Form.{tuple, forms};
     ghost use Rattle.sw_core.specs.Tuple.{tuple_norm, tuple_assumes};
-    ghost use Rattle.sw_core.specs.Laws.Tuple.{kept, pair_keeps};
+    ghost use Rattle.sw_core.specs.Laws.Parts.{kept};
+    ghost use Rattle.sw_core.specs.Laws.Tuple.{pair_keeps};
 
     ghost expr = { tuple (forms (A.expr ∷ B.expr ∷ [])) };
 
@@ -192,7 +196,8 @@ impl<
     ghost use Rattle.std.specs.Prelude.{[], ◌∷◌, ◌&&◌};
     ghost use Rattle.sw_core.specs.Parts.{reading};
     ghost use Rattle.sw_core.specs.Tuple.{tuple_reads, tuple_spot, tuple_skips};
-    ghost use Rattle.sw_core.specs.Laws.Tuple.{read_by, tuple_lawful};
+    ghost use Rattle.sw_core.specs.Laws.Parts.{read_by};
+    ghost use Rattle.sw_core.specs.Laws.Tuple.{tuple_lawful};
 
     const FREE: bool = A::FREE && B::FREE && C::FREE;
 
@@ -223,7 +228,8 @@ impl<T: Meant, U: Meant, V: Meant, A: Adapter<T>, B: Adapter<U>, C: Adapter<V>> 
     ghost use Rattle.std.specs.Prelude.{[], ◌∷◌};
     ghost use Rattle.sw_check.specs.Form.{tuple, forms};
     ghost use Rattle.sw_core.specs.Tuple.{tuple_norm, tuple_assumes};
-    ghost use Rattle.sw_core.specs.Laws.Tuple.{kept, tuple_keeps};
+    ghost use Rattle.sw_core.specs.Laws.Parts.{kept};
+    ghost use Rattle.sw_core.specs.Laws.Tuple.{tuple_keeps};
 
     ghost expr = { tuple (forms (A.expr ∷ B.expr ∷ C.expr ∷ [])) };
 
@@ -282,7 +288,8 @@ impl<
     ghost use Rattle.std.specs.Prelude.{[], ◌∷◌, ◌&&◌};
     ghost use Rattle.sw_core.specs.Parts.{reading};
     ghost use Rattle.sw_core.specs.Tuple.{tuple_reads, tuple_spot, tuple_skips};
-    ghost use Rattle.sw_core.specs.Laws.Tuple.{read_by, tuple_lawful};
+    ghost use Rattle.sw_core.specs.Laws.Parts.{read_by};
+    ghost use Rattle.sw_core.specs.Laws.Tuple.{tuple_lawful};
 
     const FREE: bool = A::FREE && B::FREE && C::FREE && D::FREE;
 
@@ -323,7 +330,8 @@ impl<
     ghost use Rattle.std.specs.Prelude.{[], ◌∷◌};
     ghost use Rattle.sw_check.specs.Form.{tuple, forms};
     ghost use Rattle.sw_core.specs.Tuple.{tuple_norm, tuple_assumes};
-    ghost use Rattle.sw_core.specs.Laws.Tuple.{kept, tuple_keeps};
+    ghost use Rattle.sw_core.specs.Laws.Parts.{kept};
+    ghost use Rattle.sw_core.specs.Laws.Tuple.{tuple_keeps};
 
     ghost expr = { tuple (forms (A.expr ∷ B.expr ∷ C.expr ∷ D.expr ∷ [])) };
 
@@ -390,7 +398,8 @@ impl<
     ghost use Rattle.std.specs.Prelude.{[], ◌∷◌, ◌&&◌};
     ghost use Rattle.sw_core.specs.Parts.{reading};
     ghost use Rattle.sw_core.specs.Tuple.{tuple_reads, tuple_spot, tuple_skips};
-    ghost use Rattle.sw_core.specs.Laws.Tuple.{read_by, tuple_lawful};
+    ghost use Rattle.sw_core.specs.Laws.Parts.{read_by};
+    ghost use Rattle.sw_core.specs.Laws.Tuple.{tuple_lawful};
 
     const FREE: bool = A::FREE && B::FREE && C::FREE && D::FREE && E::FREE;
 
@@ -433,7 +442,8 @@ impl<
     ghost use Rattle.std.specs.Prelude.{[], ◌∷◌};
     ghost use Rattle.sw_check.specs.Form.{tuple, forms};
     ghost use Rattle.sw_core.specs.Tuple.{tuple_norm, tuple_assumes};
-    ghost use Rattle.sw_core.specs.Laws.Tuple.{kept, tuple_keeps};
+    ghost use Rattle.sw_core.specs.Laws.Parts.{kept};
+    ghost use Rattle.sw_core.specs.Laws.Tuple.{tuple_keeps};
 
     ghost expr = { tuple (forms (A.expr ∷ B.expr ∷ C.expr ∷ D.expr ∷ E.expr ∷ [])) };
 
@@ -510,7 +520,8 @@ impl<
     ghost use Rattle.std.specs.Prelude.{[], ◌∷◌, ◌&&◌};
     ghost use Rattle.sw_core.specs.Parts.{reading};
     ghost use Rattle.sw_core.specs.Tuple.{tuple_reads, tuple_spot, tuple_skips};
-    ghost use Rattle.sw_core.specs.Laws.Tuple.{read_by, tuple_lawful};
+    ghost use Rattle.sw_core.specs.Laws.Parts.{read_by};
+    ghost use Rattle.sw_core.specs.Laws.Tuple.{tuple_lawful};
 
     const FREE: bool = A::FREE && B::FREE && C::FREE && D::FREE && E::FREE && F::FREE;
 
@@ -556,7 +567,8 @@ impl<
     ghost use Rattle.std.specs.Prelude.{[], ◌∷◌};
     ghost use Rattle.sw_check.specs.Form.{tuple, forms};
     ghost use Rattle.sw_core.specs.Tuple.{tuple_norm, tuple_assumes};
-    ghost use Rattle.sw_core.specs.Laws.Tuple.{kept, tuple_keeps};
+    ghost use Rattle.sw_core.specs.Laws.Parts.{kept};
+    ghost use Rattle.sw_core.specs.Laws.Tuple.{tuple_keeps};
 
     ghost expr = { tuple (forms (A.expr ∷ B.expr ∷ C.expr ∷ D.expr ∷ E.expr ∷ F.expr ∷ [])) };
 
@@ -641,7 +653,8 @@ impl<
     ghost use Rattle.std.specs.Prelude.{[], ◌∷◌, ◌&&◌};
     ghost use Rattle.sw_core.specs.Parts.{reading};
     ghost use Rattle.sw_core.specs.Tuple.{tuple_reads, tuple_spot, tuple_skips};
-    ghost use Rattle.sw_core.specs.Laws.Tuple.{read_by, tuple_lawful};
+    ghost use Rattle.sw_core.specs.Laws.Parts.{read_by};
+    ghost use Rattle.sw_core.specs.Laws.Tuple.{tuple_lawful};
 
     const FREE: bool = A::FREE && B::FREE && C::FREE && D::FREE && E::FREE && F::FREE && G::FREE;
 
@@ -689,7 +702,8 @@ impl<
     ghost use Rattle.std.specs.Prelude.{[], ◌∷◌};
     ghost use Rattle.sw_check.specs.Form.{tuple, forms};
     ghost use Rattle.sw_core.specs.Tuple.{tuple_norm, tuple_assumes};
-    ghost use Rattle.sw_core.specs.Laws.Tuple.{kept, tuple_keeps};
+    ghost use Rattle.sw_core.specs.Laws.Parts.{kept};
+    ghost use Rattle.sw_core.specs.Laws.Tuple.{tuple_keeps};
 
     ghost expr = { tuple (forms (A.expr ∷ B.expr ∷ C.expr ∷ D.expr ∷ E.expr ∷ F.expr ∷ G.expr ∷ [])) };
 
@@ -782,7 +796,8 @@ impl<
     ghost use Rattle.std.specs.Prelude.{[], ◌∷◌, ◌&&◌};
     ghost use Rattle.sw_core.specs.Parts.{reading};
     ghost use Rattle.sw_core.specs.Tuple.{tuple_reads, tuple_spot, tuple_skips};
-    ghost use Rattle.sw_core.specs.Laws.Tuple.{read_by, tuple_lawful};
+    ghost use Rattle.sw_core.specs.Laws.Parts.{read_by};
+    ghost use Rattle.sw_core.specs.Laws.Tuple.{tuple_lawful};
 
     const FREE: bool = A::FREE
         && B::FREE
@@ -839,7 +854,8 @@ impl<
     ghost use Rattle.std.specs.Prelude.{[], ◌∷◌};
     ghost use Rattle.sw_check.specs.Form.{tuple, forms};
     ghost use Rattle.sw_core.specs.Tuple.{tuple_norm, tuple_assumes};
-    ghost use Rattle.sw_core.specs.Laws.Tuple.{kept, tuple_keeps};
+    ghost use Rattle.sw_core.specs.Laws.Parts.{kept};
+    ghost use Rattle.sw_core.specs.Laws.Tuple.{tuple_keeps};
 
     ghost expr = { tuple (forms (A.expr ∷ B.expr ∷ C.expr ∷ D.expr ∷ E.expr ∷ F.expr ∷ G.expr ∷ H.expr ∷ [])) };
 

@@ -56,6 +56,7 @@ fn write_refusal<W: fmt::Write>(f: &mut fmt::Formatter<W>, refusal: Refusal) -> 
     match refusal.error {
         DeError::InvalidType(kind) => write!(f, " {}", kind_name(kind))?,
         DeError::MissingField(number) => write!(f, " {number}")?,
+        DeError::InvalidLength(count) => write!(f, " {count}")?,
         DeError::NoVariant(refused) => {
             for kind in refused {
                 if let Some(kind) = kind {

@@ -4,6 +4,7 @@
 mod answer;
 mod choices;
 mod containers;
+mod hashed;
 mod keys;
 mod maps;
 mod names;
@@ -11,6 +12,7 @@ mod person;
 mod records;
 mod stored;
 mod told;
+mod tuples;
 
 use answer::Answer;
 use std::alloc::Global;
@@ -49,6 +51,10 @@ fn asked(alloc: Global, nest: &str, text: Option<&str>) -> Answer {
     } else if let Some(answer) = choices::asked(alloc, nest, text) {
         answer
     } else if let Some(answer) = records::asked(alloc, nest, text) {
+        answer
+    } else if let Some(answer) = tuples::asked(alloc, nest, text) {
+        answer
+    } else if let Some(answer) = hashed::asked(alloc, nest, text) {
         answer
     } else {
         Answer::NoSuchNest

@@ -24,9 +24,9 @@ use Rattle.sw_core.specs.Parts.{Reading, reading, all_in}
 use Rattle.sw_core.specs.Vec.{list_writes, list_norm}
 use Rattle.sw_core.specs.Laws.Each.{Beside, each_back}
 use Rattle.sw_core.specs.Laws.Images.{list-image, mapped_some}
-use Rattle.sw_core.specs.Laws.Parts.{IsReading, AreReadings}
+use Rattle.sw_core.specs.Laws.Parts.{IsReading, AreReadings, same_reading}
 use Rattle.sw_core.specs.Laws.Rows.{AreRead}
-use Rattle.sw_core.specs.Laws.Tuple.{row_lawful, items_read, items_kind, row_spot_kinds, row_note_kinds, same_reading}
+use Rattle.sw_core.specs.Laws.Tuple.{row_lawful, items_read, items_kind, row_spot_kinds, row_note_kinds}
 use Rattle.sw_core.specs.Laws.Vec.{list_keeps}
 use Rattle.sw_core.specs.Laws.Within.{within_ok}
 

@@ -280,3 +280,27 @@ pub row_same : (m n : Mode) (ps : List Part) → EachPart (λ p. (v : Meaning) �
 row_same m n [] h vs = refl
 row_same m n (x ∷ ps) h [] = refl
 row_same m n (x ∷ ps) h (v ∷ vs) = rw (h.0 v, row_same m n ps h.1 vs) refl
+
+-- ---- the same meanings by other words
+
+-- laws hold of meanings that are the same ones
+module _ (P Q : Meaning → Type 0) (to : (v : Meaning) → P v → Q v) where
+  pub same_reading : {r : Reads} {s : Spots} → LawfulReading P r s → LawfulReading Q r s
+  same_reading h = record { meanings = λ m t v n p. to v (h.meanings m t v n p); inside = h.inside }
+
+  module _ (from : (v : Meaning) → Q v → P v) where
+    pub same_keeps : {w : Writes} {r : Reads} {s : Spots} {k : Skips} {e : Form} {n : Norm} {a : Type 0} → Lawful P w r s k e n a → Lawful Q w r s k e n a
+    same_keeps {n = n} h =
+        record {
+          images = λ m s v t q p. h.images m s v t (from v q) p;
+          back = λ a m s v t i q p e. h.back a m s v t i (from v q) p e;
+          never_key = λ m s v q p. h.never_key m s v (from v q) p;
+          written_kinds = λ m v t q p. h.written_kinds m v t (from v q) p;
+          read_kinds = h.read_kinds;
+          unmarked = h.unmarked;
+          exact = λ m g v q. h.exact m g v (from v q);
+          spot_kinds = h.spot_kinds;
+          note_kinds = h.note_kinds;
+          nodes = λ m v t q p. h.nodes m v t (from v q) p;
+          norms = λ m v q. to (n m v) (h.norms m v (from v q));
+        }

@@ -1,18 +1,16 @@
 -- The laws of a value of one of two variants, or of a third without a value, from those of the values.
-use Rattle.std.specs.Prelude.{◌≡◌, ◌≤◌, ℕ, zero, suc, List, [], ◌∷◌, Bool, true, false, ◌||◌, ◌&&◌, cond, is_some, Option, Some, None, option_map, Result, Ok, Err, codes}
-use Rattle.std.specs.Str.{bytes_eq, is_utf8}
-use Rattle.std.proofs.lemmas.Str.{IsUtf8-from_is_utf8}
+use Rattle.std.specs.Prelude.{◌≡◌, ◌≤◌, ℕ, zero, suc, List, [], ◌∷◌, Bool, true, false, ◌||◌, ◌&&◌, cond, is_some, Option, Some, None, option_map, Ok, Err, codes}
+use Rattle.std.specs.Str.{bytes_eq, IsUtf8}
 use Rattle.std.proofs.Common.{refl, ap, sym, subst, ◌∙◌, arith}
-use Rattle.sw_tree.specs.Building.{within}
 use Rattle.sw_tree.specs.Image.{image, next_entry}
 use Rattle.sw_tree.specs.Kinds.{is_kind}
 use Rattle.sw_tree.specs.Meaning.{Meaning, nothing, case}
 use Rattle.sw_tree.specs.Meant.{IsNothing, IsResultOf, IsBoundOf}
-use Rattle.sw_tree.specs.Mode.{at_value, marked}
-use Rattle.sw_tree.specs.Nodes.{kinds, IsNoteIn}
+use Rattle.sw_tree.specs.Mode.{at_value}
+use Rattle.sw_tree.specs.Nodes.{IsNoteIn}
 use Rattle.sw_tree.specs.Placed.{Note}
 use Rattle.sw_tree.specs.Proper.{IsNodeTree}
-use Rattle.sw_tree.specs.Steps.{bind, Each}
+use Rattle.sw_tree.specs.Steps.{Each}
 use Rattle.sw_tree.specs.Laws.NodeTrees.{map-is_node}
 use Rattle.sw_tree.specs.Laws.Nodes.{IsOwn, IsStable, IsBelow, IsOfKind, below-stable, kind-stable}
 use Rattle.sw_tree.specs.Tree.{Tree, Entries, no_entries, entry, depth, kind_of}
@@ -39,16 +37,16 @@ use Rattle.sw_elem.specs.Strings.{nothing_reads}
 use Rattle.sw_elem.specs.Laws.Text.{nothing_lawful}
 use Rattle.sw_elem.specs.Laws.TextLeaf.{nothing_keeps}
 use Rattle.sw_core.specs.Parts.{Reading, reading, in_mode}
-use Rattle.sw_core.specs.Plans.{children, plan_reads, plan_spot, plan_skips}
+use Rattle.sw_core.specs.Plans.{children}
 use Rattle.sw_core.specs.Rows.{Reader}
-use Rattle.sw_core.specs.Tagged.{Names, variant_of, alone_of, tag, no_tag, untagged, case_makes, variant_plan, key_plan, entry_plan, text_makes, tagged_plan, tagged_reads, tagged_spot, tagged_skips, entry_of, case_writes, alone_writes, tagged_writes, tagged_norm, result_names, bound_names}
+use Rattle.sw_core.specs.Tagged.{Names, variant_of, alone_of, tag, no_tag, untagged, case_makes, variant_plan, key_plan, text_makes, tagged_plan, tagged_reads, tagged_spot, tagged_skips, entry_of, case_writes, alone_writes, tagged_writes, tagged_norm, result_names, bound_names}
 use Rattle.sw_core.specs.declared.tagged.Variant.{Variant}
 use Rattle.sw_core.specs.declared.tagged.Variant.TheVariants.{First, Second, Alone, Unknown}
-use Rattle.sw_core.specs.Laws.Parts.{IsReading, HasKinds, HasNotes, reading_below, reading_kinds, reading_notes}
+use Rattle.sw_core.specs.Laws.Parts.{same_reading, same_keeps, IsReading, reading_below, reading_kinds, reading_notes}
 use Rattle.sw_core.specs.Laws.Plans.{RefusesItself, plan_lawful, plan_spot_kinds, plan_note_kinds}
+use Rattle.sw_core.specs.Laws.Fields.{first_name}
 use Rattle.sw_core.specs.Laws.Images.{image-elsewhere}
 use Rattle.sw_core.specs.Laws.Rows.{AreRead, EachAt, Refuses, Notes}
-use Rattle.sw_core.specs.Laws.Tuple.{same_reading, same_keeps}
 use Rattle.sw_core.specs.Laws.Within.{within_ok, within_shallow, within_key}
 
 -- such a case; the third one is there where it has a name
@@ -66,8 +64,8 @@ IsTagged n P Q _ = ⊥
 pub record AreNames (n : Names) : Type 0 where
   pub one : variant_of n n.first ≡ First
   pub two : variant_of n n.second ≡ Second
-  pub texts : (is_utf8 n.first ≡ true) × (is_utf8 n.second ≡ true)
-  pub three : (s : List ℕ) → n.alone ≡ Some s → (variant_of n s ≡ Alone) × (is_utf8 s ≡ true)
+  pub texts : IsUtf8 n.first × IsUtf8 n.second
+  pub three : (s : List ℕ) → n.alone ≡ Some s → (variant_of n s ≡ Alone) × IsUtf8 s
 
 -- ---- reading
 
@@ -225,10 +223,10 @@ text_image : (w : WireKind) (s : List ℕ) → image w Value (node.text s) ≡ S
 text_image Compact s = refl
 text_image Json s = refl
 
-text_node : (s : List ℕ) → is_utf8 s ≡ true → IsNodeTree (node.text s)
-text_node s h = record { proper = IsUtf8-from_is_utf8 s h; shallow = omega arith }
+text_node : (s : List ℕ) → IsUtf8 s → IsNodeTree (node.text s)
+text_node s h = record { proper = h; shallow = omega arith }
 
-entry_node : (s : List ℕ) (t : Tree) → is_utf8 s ≡ true → IsNodeTree t → depth (entry_of s t) ≤ 128 → IsNodeTree (entry_of s t)
+entry_node : (s : List ℕ) (t : Tree) → IsUtf8 s → IsNodeTree t → depth (entry_of s t) ≤ 128 → IsNodeTree (entry_of s t)
 entry_node s t h n d = map-is_node ((node.text s, t) ∷ []) ((text_node s h, n), tt) d
 
 -- soundness of the values, and that there is no key of JSON
@@ -411,13 +409,13 @@ module _ (n : Names) (names : AreNames n) where
 -- ---- results, and the ends of ranges
 
 result-names : AreNames result_names
-result-names = record { one = refl; two = refl; texts = (refl, refl); three = λ s e. absurd (cc) }
+result-names = record { one = refl; two = refl; texts = ((first_name (codes "Ok") [] refl).0, (first_name (codes "Err") [] refl).0); three = λ s e. absurd (cc) }
 
 abbrev is_bound : List ℕ → Type 0
-is_bound s = (variant_of bound_names s ≡ Alone) × (is_utf8 s ≡ true)
+is_bound s = (variant_of bound_names s ≡ Alone) × IsUtf8 s
 
 bound-names : AreNames bound_names
-bound-names = record { one = refl; two = refl; texts = (refl, refl); three = λ s e. let own : is_bound (codes "Unbounded") = (refl, refl) in let same : codes "Unbounded" ≡ s = cc in subst is_bound same own }
+bound-names = record { one = refl; two = refl; texts = ((first_name (codes "Included") [] refl).0, (first_name (codes "Excluded") [] refl).0); three = λ s e. let own : is_bound (codes "Unbounded") = (refl, (first_name (codes "Unbounded") [] refl).0) in let same : codes "Unbounded" ≡ s = cc in subst is_bound same own }
 
 module _ (P Q : Meaning → Type 0) where
   tagged-result : (v : Meaning) → IsTagged result_names P Q v → IsResultOf P Q v

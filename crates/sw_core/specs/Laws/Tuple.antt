@@ -23,19 +23,19 @@ use Rattle.sw_tree.specs.declared.mode.Place.TheVariants.{Value}
 use Rattle.sw_tree.specs.declared.fail.DeError.{DeError}
 use Rattle.sw_tree.specs.declared.fail.SerError.{SerError}
 use Rattle.sw_tree.specs.declared.fail.DeError.TheVariants as fail
-use Rattle.sw_check.specs.Form.{Form, tuple}
+use Rattle.sw_check.specs.Form.{tuple}
 use Rattle.sw_check.specs.Grade.{is_exact}
 use Rattle.sw_check.specs.Laws.SoundForms.{sound-tuple}
 use Rattle.sw_check.specs.Rules.{is_json_key}
-use Rattle.sw_elem.specs.Equations.{Writes, Reads, Spots, Skips, LawfulReading}
+use Rattle.sw_elem.specs.Equations.{LawfulReading}
 use Rattle.sw_elem.specs.Lawful.{Lawful}
-use Rattle.sw_elem.specs.Statements.{Norm, HasImages, ReadsBack, NeverKey, IsUnmarked, IsExact, HasSpotKinds, HasNoteKinds, WritesNodes, NormsWithin}
-use Rattle.sw_core.specs.Parts.{Reading, reading, in_mode, all_in, row_writes, row_norm}
+use Rattle.sw_elem.specs.Statements.{HasImages, ReadsBack, NeverKey, IsUnmarked, IsExact, HasSpotKinds, HasNoteKinds, WritesNodes, NormsWithin}
+use Rattle.sw_core.specs.Parts.{Reading, in_mode, all_in, row_writes, row_norm}
 use Rattle.sw_core.specs.Plans.{children}
 use Rattle.sw_core.specs.Rows.{Reader}
 use Rattle.sw_core.specs.Tuple.{tuple_writes, tuple_plan, tuple_reads, tuple_spot, tuple_skips, tuple_norm}
 use Rattle.sw_core.specs.Laws.Images.{list-image, mapped_some}
-use Rattle.sw_core.specs.Laws.Parts.{IsReading, HasKinds, HasNotes, AreReadings, IsInside, reading_kinds, reading_notes, all_inside, all_in-at, all_in-meant, all_in-count, Part, IsPart, EachPart, are_of, writes_of, bys_of, exprs_of, norms_of, All, parts_sound, parts_keep, parts_read, row_nodes, row_normed, IsImaged, IsReadBack, IsNeverKey, IsKept, row_imaged, row_back, row_count, row_never, row_exact, row_same, parts_back, parts_exact}
+use Rattle.sw_core.specs.Laws.Parts.{Read, meanings_of, readings_of, are_lawful, Kept, parts_of, are_kept, same_reading, same_keeps, HasKinds, HasNotes, AreReadings, IsInside, reading_kinds, reading_notes, all_inside, all_in-at, all_in-meant, all_in-count, Part, IsPart, EachPart, are_of, writes_of, bys_of, exprs_of, norms_of, All, parts_sound, parts_keep, parts_read, row_nodes, row_normed, IsImaged, IsReadBack, IsNeverKey, IsKept, row_imaged, row_back, row_count, row_never, row_exact, row_same, parts_back, parts_exact}
 use Rattle.sw_core.specs.Laws.Plans.{RefusesItself, plan_lawful, plan_spot_kinds, plan_note_kinds}
 use Rattle.sw_core.specs.Laws.Rows.{EachAt, Refuses, Notes, AreRead, row-reads}
 use Rattle.sw_core.specs.Laws.Within.{within_ok, within_shallow, within_key}
@@ -83,27 +83,6 @@ module _ (xs : List Reading) where
 
   pub row_note_kinds : (m : Mode) → Each (HasNotes (at_value m)) xs → HasNoteKinds (tuple_skips xs) m
   row_note_kinds m h = plan_note_kinds (tuple_plan xs) m (at_parts (Notes IsNoteIn) (HasNotes (at_value m)) m (reading_notes (at_value m)) h)
-
--- a reader with its law
-pub record Read : Type 1 where
-  pub is : Meaning → Type 0
-  pub by : Reading
-  pub law : IsReading is by
-
-abbrev pub read_by : {P : Meaning → Type 0} {r : Reads} {s : Spots} (k : Skips) → LawfulReading P r s → Read
-read_by {P} {r} {s} k h = record { is = P; by = reading r s k; law = h }
-
-abbrev pub meanings_of : List Read → List (Meaning → Type 0)
-meanings_of [] = []
-meanings_of (x ∷ xs) = x.is ∷ meanings_of xs
-
-abbrev pub readings_of : List Read → List Reading
-readings_of [] = []
-readings_of (x ∷ xs) = x.by ∷ readings_of xs
-
-are_lawful : (xs : List Read) → AreReadings (meanings_of xs) (readings_of xs)
-are_lawful [] = tt
-are_lawful (x ∷ xs) = (x.law, are_lawful xs)
 
 pub tuple_lawful : (xs : List Read) → LawfulReading (IsRowOf (meanings_of xs)) (tuple_reads (readings_of xs)) (tuple_spot (readings_of xs))
 tuple_lawful xs = row_lawful (readings_of xs) (meanings_of xs) (are_lawful xs)
@@ -186,22 +165,6 @@ module _ (ps : List Part) where
         norms = norms (parts_keep IsPart (λ p. NormsWithin p.is p.norm) (λ p k. k.norms) ps h);
       }
 
--- an adapter with its laws
-pub record Kept : Type 1 where
-  pub part : Part
-  pub laws : IsPart part
-
-abbrev pub kept : {P : Meaning → Type 0} {w : Writes} {r : Reads} {s : Spots} {k : Skips} {e : Form} {n : Norm} {a : Type 0} → Lawful P w r s k e n a → Kept
-kept {P} {w} {r} {s} {k} {e} {n} {a} h = record { part = record { is = P; writes = w; by = reading r s k; expr = e; norm = n; assumes = a }; laws = h }
-
-abbrev pub parts_of : List Kept → List Part
-parts_of [] = []
-parts_of (x ∷ xs) = x.part ∷ parts_of xs
-
-are_kept : (xs : List Kept) → EachPart IsPart (parts_of xs)
-are_kept [] = tt
-are_kept (x ∷ xs) = (x.laws, are_kept xs)
-
 module _ (xs : List Kept) where
   abbrev ps : List Part
   ps = parts_of xs
@@ -224,28 +187,6 @@ row-pair P Q (list no_meanings) h = absurd h
 row-pair P Q (list (meaning a no_meanings)) h = absurd h.1
 row-pair P Q (list (meaning a (meaning b (meaning c vs)))) h = absurd h.1.1
 row-pair P Q _ h = absurd h
-
--- laws hold of meanings that are the same ones
-module _ (P Q : Meaning → Type 0) (to : (v : Meaning) → P v → Q v) where
-  pub same_reading : {r : Reads} {s : Spots} → LawfulReading P r s → LawfulReading Q r s
-  same_reading h = record { meanings = λ m t v n p. to v (h.meanings m t v n p); inside = h.inside }
-
-  module _ (from : (v : Meaning) → Q v → P v) where
-    pub same_keeps : {w : Writes} {r : Reads} {s : Spots} {k : Skips} {e : Form} {n : Norm} {a : Type 0} → Lawful P w r s k e n a → Lawful Q w r s k e n a
-    same_keeps {n = n} h =
-        record {
-          images = λ m s v t q p. h.images m s v t (from v q) p;
-          back = λ a m s v t i q p e. h.back a m s v t i (from v q) p e;
-          never_key = λ m s v q p. h.never_key m s v (from v q) p;
-          written_kinds = λ m v t q p. h.written_kinds m v t (from v q) p;
-          read_kinds = h.read_kinds;
-          unmarked = h.unmarked;
-          exact = λ m g v q. h.exact m g v (from v q);
-          spot_kinds = h.spot_kinds;
-          note_kinds = h.note_kinds;
-          nodes = λ m v t q p. h.nodes m v t (from v q) p;
-          norms = λ m v q. to (n m v) (h.norms m v (from v q));
-        }
 
 pub pair_lawful : (x y : Read) → LawfulReading (IsPairOf x.is y.is) (tuple_reads (x.by ∷ y.by ∷ [])) (tuple_spot (x.by ∷ y.by ∷ []))
 pair_lawful x y = same_reading (IsRowOf (x.is ∷ y.is ∷ [])) (IsPairOf x.is y.is) (row-pair x.is y.is) (tuple_lawful (x ∷ y ∷ []))
