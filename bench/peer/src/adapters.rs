@@ -5,6 +5,7 @@ use serde::ser::{Serialize, Serializer};
 use std::collections::{BTreeMap, BTreeSet, LinkedList, VecDeque};
 use std::fmt::{self, Display};
 use std::marker::PhantomData;
+use std::ops::Bound;
 use std::str::FromStr;
 
 /// What holds a value of `T`, and may be made of one.
@@ -143,6 +144,24 @@ tuples! {
     (A T 0, B U 1)
     (A T 0, B U 1, C V 2)
     (A T 0, B U 1, C V 2, D W 3, E X 4, F Y 5, G Z 6, H Q 7)
+}
+
+impl<T, E, A: Holds<T>, B: Holds<E>> Holds<Result<T, E>> for Result<A, B> {
+    fn of(value: Result<T, E>) -> Self {
+        value.map(A::of).map_err(B::of)
+    }
+    fn value(self) -> Result<T, E> {
+        self.map(A::value).map_err(B::value)
+    }
+}
+
+impl<T, A: Holds<T>> Holds<Bound<T>> for Bound<A> {
+    fn of(value: Bound<T>) -> Self {
+        value.map(A::of)
+    }
+    fn value(self) -> Bound<T> {
+        self.map(A::value)
+    }
 }
 
 impl<T, A: Holds<T>, const N: usize> Holds<[T; N]> for [A; N] {

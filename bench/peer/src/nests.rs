@@ -4,6 +4,8 @@ use crate::adapters::{Aside, AtMostOne, Choice, Holds, Pairs, PreferMany, Prefer
 use serde::{de::DeserializeOwned, Serialize};
 use serde_json::Value;
 use std::collections::{BTreeMap, BTreeSet, LinkedList, VecDeque};
+use std::num::NonZeroU8;
+use std::ops::Bound;
 
 /// The text that `S` writes for what `R` reads; none where either refuses.
 fn apart<R: Holds<T> + DeserializeOwned, S: Holds<T> + Serialize, T>(text: &str) -> Option<String> {
@@ -146,6 +148,11 @@ pub fn answer(nest: &str, text: &str) -> Option<String> {
         "Option<(Same, Same)> of Option<(u32, u32)>" => {
             again::<Option<(Same<u32>, Same<u32>)>, Option<(u32, u32)>>(text)
         }
+        "Result<Same, DisplayFromStr> of Result<u8, u32>" => {
+            again::<Result<Same<u8>, Shown<u32>>, Result<u8, u32>>(text)
+        }
+        "Bound<DisplayFromStr> of Bound<u32>" => again::<Bound<Shown<u32>>, Bound<u32>>(text),
+        "Same of NonZeroU8" => again::<Same<NonZeroU8>, NonZeroU8>(text),
         // Written in the order of the keys or items, as a hashed map or set of ours is.
         "HashMap<Same, Same> of HashMap<u32, u32>" => {
             again::<BTreeMap<Same<u32>, Same<u32>>, BTreeMap<u32, u32>>(text)

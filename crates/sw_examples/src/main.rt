@@ -2,6 +2,7 @@
 #![tactic(auto)]
 
 mod answer;
+mod cases;
 mod choices;
 mod containers;
 mod hashed;
@@ -55,6 +56,8 @@ fn asked(alloc: Global, nest: &str, text: Option<&str>) -> Answer {
     } else if let Some(answer) = tuples::asked(alloc, nest, text) {
         answer
     } else if let Some(answer) = hashed::asked(alloc, nest, text) {
+        answer
+    } else if let Some(answer) = cases::asked(alloc, nest, text) {
         answer
     } else {
         Answer::NoSuchNest
