@@ -26,7 +26,7 @@ use Rattle.sw_core.specs.Parts.{Reading, all_in, row_writes}
 use Rattle.sw_core.specs.Rows.{Reader}
 use Rattle.sw_core.specs.Tuple.{tuple_writes, tuple_plan, tuple_reads, tuple_spot, tuple_skips}
 use Rattle.sw_core.proofs.Places.{plan-placed, plan-logged}
-use Rattle.sw_core.proofs.Putting.{not_put, closed_on}
+use Rattle.sw_core.specs.Laws.Putting.{not_put, closed_on}
 
 -- ---- reading
 

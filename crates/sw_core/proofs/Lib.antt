@@ -1,14 +1,11 @@
-pub mod Iterated
 pub mod Rows
 pub mod Places
 pub mod Children
 pub mod Keyed
 pub mod Tagging
 pub mod FirstEntry
-pub mod Putting
 pub mod InTurn
 pub mod Filling
-pub mod InOrder
 pub mod Lent
 pub mod Hashing
 pub mod Recoding

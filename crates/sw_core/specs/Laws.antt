@@ -4,6 +4,8 @@ pub mod Rows
 pub mod Plans
 pub mod Parts
 pub mod Tagged
+pub mod Iterated
+pub mod Putting
 pub mod Each
 pub mod Within
 pub mod Images
@@ -16,6 +18,7 @@ pub mod Fields
 pub mod Record
 pub mod OptionalPair
 pub mod OrderedMap
+pub mod InOrder
 pub mod Set
 pub mod Display
 pub mod Again

@@ -121,7 +121,7 @@ fn write_in_order<K: Keyed, V: Meant, KA: SerializeAs<K>, VA: SerializeAs<V>, B:
 }
 
 /// The entries, lent, in the order of their keys.
-fn by_key<'a, K: Keyed, V>(
+pub fn by_key<'a, K: Keyed, V>(
     alloc: Global,
     source: &'a HashMap<K, V>,
 ) -> Result<BTreeMap<&'a K, &'a V>, AllocError>
@@ -135,7 +135,7 @@ fn by_key<'a, K: Keyed, V>(
 }
 
 /// The hashed map into which these pairs are put in turn.
-fn hashed<K: Keyed, V: Meant>(
+pub fn hashed<K: Keyed, V: Meant>(
     alloc: Global,
     pairs: Vec<(K, V)>,
 ) -> Result<HashMap<K, V>, AllocError>

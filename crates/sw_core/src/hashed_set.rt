@@ -91,7 +91,7 @@ impl<T: Ranked + Hash, A: Adapter<T> + Eq + Hash> Adapter<HashSet<T>> for HashSe
 }
 
 /// The items, lent, in their order.
-fn in_order<'a, T: Ranked + Hash>(
+pub fn in_order<'a, T: Ranked + Hash>(
     alloc: Global,
     source: &'a HashSet<T>,
 ) -> Result<BTreeSet<&'a T>, AllocError>
@@ -105,7 +105,7 @@ fn in_order<'a, T: Ranked + Hash>(
 }
 
 /// The hashed set into which these values are put in turn.
-fn hashed<T: Ranked + Hash>(alloc: Global, values: Vec<T>) -> Result<HashSet<T>, AllocError>
+pub fn hashed<T: Ranked + Hash>(alloc: Global, values: Vec<T>) -> Result<HashSet<T>, AllocError>
     ensures { IfOk result (λ set. sort_keys_onto T.cmp [] set.keys ≡ sort_keys_onto T.cmp [] values.items) }
 {
     let mut set = HashSet::new(alloc);

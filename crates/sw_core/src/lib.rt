@@ -40,6 +40,3 @@ pub use display::DisplayFromStr;
 pub use recode::RecodeError;
 pub use same::Same;
 pub use token::Faithful;
-
-#[cfg(test)]
-mod tests;

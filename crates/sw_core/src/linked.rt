@@ -83,7 +83,7 @@ impl<T: Meant, A: Adapter<T>> Adapter<LinkedList<T>> for LinkedList<A> {
 }
 
 /// The linked list of these values, in their order.
-fn linked<T: Drop>(alloc: Global, values: Vec<T>) -> Result<LinkedList<T>, AllocError>
+pub fn linked<T: Drop>(alloc: Global, values: Vec<T>) -> Result<LinkedList<T>, AllocError>
     ensures { IfOk result (λ list. list ≡ values.items) }
 {
     let mut list = LinkedList::new(alloc);

@@ -168,7 +168,7 @@ impl<T: Meant, U: Meant, KA: Adapter<T> + Eq + Hash, VA: Adapter<U>> Adapter<Opt
 }
 
 /// Puts in the map of this pair, or of none.
-fn write_optional<T: Meant, U: Meant, K: SerializeAs<T>, V: SerializeAs<U>, B: Builds>(
+pub fn write_optional<T: Meant, U: Meant, K: SerializeAs<T>, V: SerializeAs<U>, B: Builds>(
     alloc: Global,
     out: &mut B,
     source: &Option<(T, U)>,

@@ -112,7 +112,7 @@ fn write_in_order<K: Keyed, V: Meant, KA: SerializeAs<K>, VA: SerializeAs<V>, B:
 }
 
 /// The map into which these pairs are put in turn.
-fn put_in_order<K: Keyed, V: Meant>(
+pub fn put_in_order<K: Keyed, V: Meant>(
     alloc: Global,
     pairs: Vec<(K, V)>,
 ) -> Result<BTreeMap<K, V>, AllocError>

@@ -88,7 +88,7 @@ impl<T: Ranked, A: Adapter<T> + Ord> Adapter<BTreeSet<T>> for BTreeSet<A> {
 }
 
 /// The set into which these values are put in turn.
-fn put_in_order<T: Ranked>(alloc: Global, values: Vec<T>) -> Result<BTreeSet<T>, AllocError>
+pub fn put_in_order<T: Ranked>(alloc: Global, values: Vec<T>) -> Result<BTreeSet<T>, AllocError>
     ensures { IfOk result (λ set. set.keys ≡ sort_keys_onto T.cmp [] values.items) }
 {
     let mut set = BTreeSet::new(alloc);

@@ -5,6 +5,3 @@ pub mod free;
 pub mod map;
 
 pub use map::Map;
-
-#[cfg(test)]
-mod tests;

@@ -11,6 +11,3 @@ mod sealed;
 pub use one_or_many::OneOrMany;
 pub use pick_first::PickFirst;
 pub use preference::Preference;
-
-#[cfg(test)]
-mod tests;

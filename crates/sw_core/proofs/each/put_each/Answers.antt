@@ -3,7 +3,7 @@ use Rattle.std.specs.Map.Iter.{deref}
 use Rattle.sw_tree.specs.Mode.{at_value}
 use Rattle.sw_core.specs.Inner.Iterated.{Iterates}
 use Rattle.sw_core.specs.Inner.Putting.{all_put}
-use Rattle.sw_core.proofs.Iterated.{put_next, put_refused, put_last}
+use Rattle.sw_core.specs.Laws.Iterated.{put_next, put_refused, put_last}
 use Rattle.sw_core.proofs.each.put_each.Goals as goal
 
 pub loop-value-init : goal.loop-value-init

@@ -1,4 +1,4 @@
-use Rattle.sw_core.proofs.Putting.{list_refused, list_closed}
+use Rattle.sw_core.specs.Laws.Putting.{list_refused, list_closed}
 use Rattle.sw_core.proofs.each.write_list.Goals as goal
 
 pub returns-in_err-put_each : goal.returns-in_err-put_each

@@ -1,6 +1,6 @@
 use Rattle.std.proofs.Common.{true}
 use Rattle.sw_tree.specs.Mode.{at_key, at_value}
-use Rattle.sw_core.proofs.Putting.{map_opened}
+use Rattle.sw_core.specs.Laws.Putting.{map_opened}
 use Rattle.sw_core.proofs.entries.write_entries.Goals as goal
 
 pub loop-pair-init : goal.loop-pair-init

@@ -8,7 +8,7 @@ use Rattle.sw_tree.specs.Sorted.{sort_onto}
 use Rattle.sw_core.specs.Entries.{pair_writes}
 use Rattle.sw_core.specs.Inner.Putting.{all_put_pairs}
 use Rattle.sw_core.proofs.Lent.{put_shown}
-use Rattle.sw_core.proofs.Putting.{map_opened, map_closed}
+use Rattle.sw_core.specs.Laws.Putting.{map_opened, map_closed}
 use Rattle.sw_core.proofs.hashed_map.write_in_order.Goals as goal
 
 pub loop-key-init : goal.loop-key-init

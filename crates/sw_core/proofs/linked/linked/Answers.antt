@@ -1,5 +1,6 @@
 use Rattle.std.proofs.Common.{rules, sym, ◌∙◌}
-use Rattle.sw_core.proofs.Iterated.{none_is, pushed, all_pushed}
+use Rattle.std.proofs.lemmas.List.{nil_from_length}
+use Rattle.sw_core.specs.Laws.Iterated.{pushed, all_pushed}
 use Rattle.sw_core.proofs.linked.linked.Goals as goal
 
 pub loop-value-preserved : goal.loop-value-preserved
@@ -9,4 +10,4 @@ loop-value-preserved g c =
 pub returns : goal.returns
 returns g c =
     let rest = c.loop-value.value-iterator.rest in
-    all_pushed c.loop-value.list c.args.values.items rest.items c.loop-value.invariant (none_is rest.items (sym rest.ok.0 ∙ c.in-None.ensures.steps.0))
+    all_pushed c.loop-value.list c.args.values.items rest.items c.loop-value.invariant (nil_from_length rest.items (sym rest.ok.0 ∙ c.in-None.ensures.steps.0))

@@ -2,7 +2,7 @@ use Rattle.std.proofs.Common.{refl, true, [], ◌∷◌}
 use Rattle.sw_tree.specs.Meant.{pair}
 use Rattle.sw_tree.specs.Mode.{at_key, at_value}
 use Rattle.sw_core.specs.Entries.{pair_writes}
-use Rattle.sw_core.proofs.Putting.{map_closed, pair_put}
+use Rattle.sw_core.specs.Laws.Putting.{map_closed, pair_put}
 use Rattle.sw_core.proofs.optional_pair.write_optional.Goals as goal
 
 pub returns-in_ok-open_map-in-None : goal.returns-in_ok-open_map-in-None

@@ -2,7 +2,7 @@ use Rattle.std.proofs.Common.{true, sym, ap, ◌∙◌}
 use Rattle.sw_tree.specs.Mode.{at_key, at_value}
 use Rattle.sw_tree.specs.Placed.{pair_of}
 use Rattle.sw_core.specs.Inner.Putting.{all_put_pairs}
-use Rattle.sw_core.proofs.Putting.{map_opened}
+use Rattle.sw_core.specs.Laws.Putting.{map_opened}
 use Rattle.sw_core.proofs.ordered_map.write_in_order.Goals as goal
 
 pub loop-key-init : goal.loop-key-init

@@ -1,7 +1,7 @@
 use Rattle.std.proofs.Common.{rules}
 use Rattle.std.specs.Box.{boxed_slice_items}
 use Rattle.std.specs.Slice.Iter.{iter_rest}
-use Rattle.sw_core.proofs.Iterated.{rest_iterates}
+use Rattle.sw_core.specs.Laws.Iterated.{rest_iterates}
 use Rattle.sw_core.proofs.boxed_slice.BoxedSliceSerializeAs.write_as.Goals as goal
 
 pub returns : goal.returns

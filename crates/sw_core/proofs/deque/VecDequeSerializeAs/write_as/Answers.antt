@@ -1,6 +1,6 @@
 use Rattle.std.proofs.Common.{rules}
 use Rattle.std.specs.VecDeque.Iter.{deque_iter_rest}
-use Rattle.sw_core.proofs.Iterated.{rest_iterates}
+use Rattle.sw_core.specs.Laws.Iterated.{rest_iterates}
 use Rattle.sw_core.proofs.deque.VecDequeSerializeAs.write_as.Goals as goal
 
 pub returns : goal.returns

@@ -2,7 +2,7 @@ use Rattle.std.proofs.Common.{[]}
 use Rattle.sw_tree.specs.Inner.View.{seen}
 use Rattle.sw_tree.specs.Sorted.{sort_onto}
 use Rattle.sw_core.specs.Entries.{entries_reads, entries_spot}
-use Rattle.sw_core.proofs.InOrder.{map_put}
+use Rattle.sw_core.specs.Laws.InOrder.{map_put}
 use Rattle.sw_core.proofs.hashed_map.HashMapDeserializeAs.deserialize_as.Goals as goal
 
 pub returns-clause-answer : goal.returns-clause-answer

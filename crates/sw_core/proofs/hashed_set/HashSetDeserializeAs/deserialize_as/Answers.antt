@@ -2,7 +2,7 @@ use Rattle.std.proofs.Common.{[]}
 use Rattle.sw_tree.specs.Inner.View.{seen}
 use Rattle.sw_tree.specs.Sorted.{sort_keys_onto}
 use Rattle.sw_core.specs.Vec.{list_reads, list_spot}
-use Rattle.sw_core.proofs.InOrder.{set_put}
+use Rattle.sw_core.specs.Laws.InOrder.{set_put}
 use Rattle.sw_core.proofs.hashed_set.HashSetDeserializeAs.deserialize_as.Goals as goal
 
 pub returns-clause-answer : goal.returns-clause-answer

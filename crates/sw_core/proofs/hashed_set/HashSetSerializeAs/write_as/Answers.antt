@@ -1,7 +1,7 @@
 use Rattle.std.proofs.Common.{rules, [], ap, ◌∙◌, map}
 use Rattle.std.specs.Map.Iter.{deref}
 use Rattle.sw_tree.specs.Sorted.{sort_keys_onto}
-use Rattle.sw_core.proofs.Iterated.{lent_iterates}
+use Rattle.sw_core.specs.Laws.Iterated.{lent_iterates}
 use Rattle.sw_core.proofs.hashed_set.HashSetSerializeAs.write_as.Goals as goal
 
 pub returns : goal.returns

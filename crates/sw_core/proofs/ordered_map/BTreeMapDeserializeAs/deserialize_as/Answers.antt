@@ -1,6 +1,6 @@
 use Rattle.sw_tree.specs.Inner.View.{seen}
 use Rattle.sw_core.specs.Entries.{entries_reads, entries_spot}
-use Rattle.sw_core.proofs.InOrder.{map_put}
+use Rattle.sw_core.specs.Laws.InOrder.{map_put}
 use Rattle.sw_core.proofs.ordered_map.BTreeMapDeserializeAs.deserialize_as.Goals as goal
 
 pub returns-clause-answer : goal.returns-clause-answer

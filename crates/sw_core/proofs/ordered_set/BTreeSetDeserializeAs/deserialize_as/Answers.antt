@@ -1,6 +1,6 @@
 use Rattle.sw_tree.specs.Inner.View.{seen}
 use Rattle.sw_core.specs.Vec.{list_reads, list_spot}
-use Rattle.sw_core.proofs.InOrder.{set_put}
+use Rattle.sw_core.specs.Laws.InOrder.{set_put}
 use Rattle.sw_core.proofs.ordered_set.BTreeSetDeserializeAs.deserialize_as.Goals as goal
 
 pub returns-clause-answer : goal.returns-clause-answer

@@ -1,6 +1,6 @@
 use Rattle.std.proofs.Common.{rules}
 use Rattle.std.specs.Map.Iter.{deref}
-use Rattle.sw_core.proofs.Iterated.{list_iterates}
+use Rattle.sw_core.specs.Laws.Iterated.{list_iterates}
 use Rattle.sw_core.proofs.ordered_set.BTreeSetSerializeAs.write_as.Goals as goal
 
 pub returns : goal.returns

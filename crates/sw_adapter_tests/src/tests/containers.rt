@@ -1,9 +1,9 @@
-use crate::adapter::DeserializeAs;
-use crate::display::DisplayFromStr;
-use crate::free::{
+use sw_core::adapter::DeserializeAs;
+use sw_core::display::DisplayFromStr;
+use sw_core::free::{
     are_copies_free, are_leaves_free, are_parsed_leaves_free, is_list_free, is_parsed_text_free,
 };
-use crate::same::Same;
+use sw_core::same::Same;
 use std::collections::{BTreeMap, HashMap, HashSet};
 
 #[test]

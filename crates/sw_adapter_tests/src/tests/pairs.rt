@@ -1,5 +1,5 @@
-use crate::free::is_map_free;
-use crate::map::Map;
+use sw_pairs::free::is_map_free;
+use sw_pairs::map::Map;
 use std::alloc::{AllocError, Global};
 use sw_check::blame::CheckFail;
 use sw_check::check;

@@ -1,5 +1,6 @@
 -- What is put in while an iterator gives the values, and which values std's iterators give.
-use Rattle.std.proofs.Common.{◌≡◌, List, [], ◌∷◌, ◌++◌, append_assoc, append-nil, length, map, MatchOption, Option, Some, None, Result, Ok, Err, Bor, refl, ap, sym, subst, ◌∙◌, arith}
+use Rattle.std.proofs.Common.{◌≡◌, List, [], ◌∷◌, ◌++◌, append_assoc, append-nil, length, map, MatchOption, Option, Some, None, Result, Ok, Err, Bor, refl, ap, sym, subst, ◌∙◌}
+use Rattle.std.proofs.lemmas.List.{nil_from_length}
 use Rattle.std.specs.Map.Iter.{TakesFirst, deref}
 use Rattle.std.specs.Result.{IsErrAnd}
 use Rattle.sw_tree.specs.Building.{puts, IsBuilt}
@@ -88,10 +89,6 @@ module _ {S A X : Type 0} (shows : A → X) (gives : S → Option A → S → Ty
   iterates steps [] s e = λ r t g. none_left s t r e (steps s r t g)
   iterates steps (x ∷ xs) s e = λ r t g. one_left x xs s t r e (steps s r t g) (iterates steps xs)
 
-pub none_is : {X : Type 0} (xs : List X) → length xs ≡ 0 → xs ≡ []
-none_is [] e = refl
-none_is (x ∷ xs) e = absurd (omega (arith, e))
-
 -- one whose state is the list of what is left
 pub list_iterates : {A X : Type 0} (shows : A → X) (xs : List X) (s : List X) → s ≡ xs → Iterates shows (TakesFirst shows) xs s
 list_iterates {A} {X} shows = iterates shows (TakesFirst shows) (λ s. s) steps
@@ -114,7 +111,7 @@ module _ {S X : Type 0} (rest : S → List X) where
   StaysThen s r t = MatchOption r ((length (rest s) ≡ 0) × (t ≡ s)) (λ a. rest s ≡ a.now ∷ rest t)
 
   stays_steps : (s : S) (r : Option (Bor X)) (t : S) → StaysThen s r t → ShowsFirst deref StaysThen rest s r t
-  stays_steps s None t g = none_is (rest s) g.0
+  stays_steps s None t g = nil_from_length (rest s) g.0
   stays_steps s (Some a) t g = g
 
   pub rest_iterates : (xs : List X) (s : S) → rest s ≡ xs → Iterates deref StaysThen xs s

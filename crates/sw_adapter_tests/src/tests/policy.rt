@@ -1,5 +1,5 @@
-use crate::one_or_many::OneOrMany;
-use crate::pick_first::PickFirst;
+use sw_policy::one_or_many::OneOrMany;
+use sw_policy::pick_first::PickFirst;
 use sw_core::adapter::DeserializeAs;
 use sw_core::display::DisplayFromStr;
 use sw_core::formats::PreferOne;
