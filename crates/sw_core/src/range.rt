@@ -469,8 +469,8 @@ trait BoundName {
 
     ghost name: { List ℕ };
 
-    fn is_named(name: &str) -> bool
-        ensures { result ≡ bytes_eq name.now Self.name };
+    fn is_named(text: &str) -> bool
+        ensures { result ≡ bytes_eq text.now name };
 }
 
 struct StartName;
@@ -480,8 +480,8 @@ impl BoundName for StartName {
 
     ghost name = { codes "start" };
 
-    fn is_named(name: &str) -> bool {
-        name == "start"
+    fn is_named(text: &str) -> bool {
+        text == "start"
     }
 }
 
@@ -492,8 +492,8 @@ impl BoundName for EndName {
 
     ghost name = { codes "end" };
 
-    fn is_named(name: &str) -> bool {
-        name == "end"
+    fn is_named(text: &str) -> bool {
+        text == "end"
     }
 }
 

@@ -109,20 +109,17 @@ module _ (P : Meaning → Type 0) where
   one_to_one : IsConversion Both Unwalked unwalked both_bounds
   one_to_one = record { into = into; out = λ v h. out v h.0; same = λ v h. h.1 }
 
-module _ {P : Meaning → Type 0} {r : Reads} {s : Spots} (k : Skips) (law : LawfulReading P r s) where
-  abbrev fs : List Field
-  fs = bounds range_names (reading r s k)
+abbrev two_bounds : Reading → List Field
+two_bounds x = bounds range_names x
 
-  pub inclusive_lawful : LawfulReading (Inclusive P) (inclusive_reads (reading r s k)) (range_spot fs)
-  inclusive_lawful = same_reading (Unwalked P) (Inclusive P) (λ v h. h.0) (converted_lawful (one_to_one P) (range_lawful fs (read_by k law ∷ read_by k law ∷ []) refl (tt, (tt, tt))))
+module _ {P : Meaning → Type 0} {r : Reads} {s : Spots} (k : Skips) (law : LawfulReading P r s) where
+  pub inclusive_lawful : LawfulReading (Inclusive P) (inclusive_reads (reading r s k)) (range_spot (two_bounds (reading r s k)))
+  inclusive_lawful = same_reading (Unwalked P) (Inclusive P) (λ v h. h.0) (converted_lawful (one_to_one P) (range_lawful (two_bounds (reading r s k)) (read_by k law ∷ read_by k law ∷ []) refl (tt, (tt, tt))))
 
 module _ {P : Meaning → Type 0} {w : Writes} {r : Reads} {s : Spots} {k : Skips} {e : Form} {n : Norm} {a : Type 0} (law : Lawful P w r s k e n a) where
-  abbrev fs : List Field
-  fs = bounds range_names (reading r s k)
-
-  pub inclusive_keeps : Lawful (Inclusive P) (inclusive_writes w) (inclusive_reads (reading r s k)) (range_spot fs) (range_skips fs) (fields (form e (form e no_forms)) true Rounded) (inclusive_norm n) (a × (a × Unit {0}))
+  pub inclusive_keeps : Lawful (Inclusive P) (inclusive_writes w) (inclusive_reads (reading r s k)) (range_spot (two_bounds (reading r s k))) (range_skips (two_bounds (reading r s k))) (fields (form e (form e no_forms)) true Rounded) (inclusive_norm n) (a × (a × Unit {0}))
   inclusive_keeps =
-      let one = range_keeps fs refl (kept law ∷ kept law ∷ []) refl Rounded in
+      let one = range_keeps (two_bounds (reading r s k)) refl (kept law ∷ kept law ∷ []) refl Rounded in
       let two = converted_keeps (one_to_one P) one in
       record {
         images = λ m i v t h p. one.images m i (both_bounds v) t (out P v h) p;

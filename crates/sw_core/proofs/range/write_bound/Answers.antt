@@ -1,6 +1,6 @@
 use Rattle.std.proofs.Common.{subst}
 use Rattle.sw_tree.specs.Building.{IsPut}
-use Rattle.sw_core.proofs.Range.{one_written}
+use Rattle.sw_core.proofs.Ranged.{one_written}
 use Rattle.sw_core.proofs.range.write_bound.Goals as goal
 
 pub returns : goal.returns
