@@ -8,5 +8,6 @@ pub mod InTurn
 pub mod Filling
 pub mod Lent
 pub mod Hashing
+pub mod Ranged
 pub mod Recoding
 pub mod Again

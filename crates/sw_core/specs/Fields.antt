@@ -31,6 +31,11 @@ required s x = record { name = s; by = x; absent = None }
 abbrev pub optional : List ℕ → Reading → Meaning → Field
 optional s x v = record { name = s; by = x; absent = Some v }
 
+-- how the values of them are read
+abbrev pub fields_by : List Field → List Reading
+fields_by [] = []
+fields_by (f ∷ fs) = f.by ∷ fields_by fs
+
 -- what the fields mean so far, in the order of declaration
 abbrev pub Slots : Type 0
 Slots = List (Option Meaning)

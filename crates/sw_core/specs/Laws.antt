@@ -16,6 +16,7 @@ pub mod Option
 pub mod Entries
 pub mod Fields
 pub mod Record
+pub mod Range
 pub mod OptionalPair
 pub mod OrderedMap
 pub mod InOrder

@@ -24,6 +24,7 @@ pub mod ordered_map;
 pub mod ordered_set;
 pub mod pair_list;
 mod parts;
+pub mod range;
 pub mod recode;
 pub mod record;
 pub mod result;

@@ -1,7 +1,8 @@
 #![tactic(auto, using(sw_tree::specs::Laws::Logs::gains))]
 
-ghost use Rattle.std.specs.Prelude.{◌≡◌, true};
+ghost use Rattle.std.specs.Prelude.{◌≡◌, true, Some, None, MatchResult};
 ghost use Rattle.sw_tree.specs.Placed.{placed, placed_notes};
+ghost use Rattle.sw_tree.specs.Tree.{text_at, kind_of};
 ghost use Rattle.sw_tree.specs.Inner.View.{seen, tree_of};
 ghost use Rattle.sw_elem.specs.Answers.{IsRead, IsLogged, ReadsFreely};
 ghost use Rattle.sw_core.specs.Fields.{no_slots};
@@ -69,6 +70,20 @@ fn read_values<T: Meant, R: Fields<T>>(
     }
 }
 
+/// The name that a record's key is: its text. A key of another kind is refused as `InvalidType` of that
+/// kind.
+pub fn key_name<'a>(key: View<'a>) -> Result<&'a str, DeError>
+    ensures { MatchResult
+        result
+        (λ name. text_at (tree_of key.entry) ≡ Some name.now)
+        (λ e. (text_at (tree_of key.entry) ≡ None) × (e ≡ DeError.InvalidType (kind_of (tree_of key.entry)))) }
+{
+    match key.as_text() {
+        Some(name) => Ok(name),
+        None => Err(DeError::InvalidType(key.kind())),
+    }
+}
+
 /// Reads one entry.
 fn read_value<T: Meant, R: Fields<T>>(
     alloc: Global,
@@ -82,8 +97,8 @@ fn read_value<T: Meant, R: Fields<T>>(
     ensures logs { IsLogged result log.old (entry_logs R.known mode (R.slots fields.old) (seen key.entry, seen value.entry)) log.new }
     ensures free { R.FREE ≡ true → ReadsFreely result }
 {
-    match key.as_text() {
-        None => Err(refused_at(key, DeError::InvalidType(key.kind()))),
-        Some(name) => fields.read(alloc, name, key, value, mode, log),
+    match key_name(key) {
+        Err(error) => Err(refused_at(key, error)),
+        Ok(name) => fields.read(alloc, name, key, value, mode, log),
     }
 }

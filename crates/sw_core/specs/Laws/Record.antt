@@ -40,7 +40,7 @@ use Rattle.sw_check.specs.declared.grade.Grade.{Grade}
 use Rattle.sw_elem.specs.Equations.{Writes, LawfulReading}
 use Rattle.sw_elem.specs.Lawful.{Lawful}
 use Rattle.sw_elem.specs.Statements.{HasImages, ReadsBack, NeverKey, IsUnmarked, IsExact, HasSpotKinds, HasNoteKinds, WritesNodes, NormsWithin}
-use Rattle.sw_core.specs.Fields.{Field, Slots, no_slots, collect, IsFieldPut}
+use Rattle.sw_core.specs.Fields.{Field, fields_by, Slots, no_slots, collect, IsFieldPut}
 use Rattle.sw_core.specs.Laws.Fields.{names_of, is_new, are_names, first_name, new_behind, same_name}
 use Rattle.sw_core.specs.Laws.Images.{entry_image, map-image}
 use Rattle.sw_core.specs.Laws.Parts.{HasKinds, HasNotes, AreReadings, Read, meanings_of, readings_of, are_lawful, reading_kinds, reading_notes, all_inside, all_in-count, Part, IsPart, EachPart, Kept, parts_of, are_kept, are_of, writes_of, bys_of, exprs_of, norms_of, All, parts_sound, parts_keep, parts_read, parts_back, parts_exact, row_nodes, row_normed, IsImaged, IsReadBack, IsNeverKey, IsKept, row_imaged, row_back, row_count, row_never, row_exact, row_same}
@@ -53,10 +53,6 @@ use Rattle.sw_core.specs.Record.{Given, gives_none, refuses_key, gives_field, Fi
 use Rattle.sw_core.specs.Rows.{Reader, row_reads}
 
 -- ---- what holds of each field holds of the one that a key names
-
-abbrev pub fields_by : List Field → List Reading
-fields_by [] = []
-fields_by (f ∷ fs) = f.by ∷ fields_by fs
 
 -- of each with its number
 abbrev Numbered : (ℕ → Reading → Type 0) → List Reading → Type 0
