@@ -1,17 +1,24 @@
 -- Pairs that an iterator lends: they are put in one after another, and make the map.
-use Rattle.std.proofs.Common.{◌≡◌, Bool, List, [], ◌∷◌, true, Option, Some, None, Result, Ok, Err, Bor, refl, ap, sym, subst, ◌∙◌}
+use Rattle.std.proofs.Common.{◌≡◌, Bool, List, [], ◌∷◌, map, true, Option, Some, None, Result, Ok, Err, Bor, refl, ap, sym, subst, ◌∙◌}
 use Rattle.std.specs.Map.Iter.{deref}
 use Rattle.std.specs.Result.{IsErrAnd}
-use Rattle.sw_tree.specs.Building.{puts, within, with_put, IsBuilt, IsPut}
-use Rattle.sw_tree.specs.Meaning.{Meaning}
+use Rattle.sw_tree.specs.Building.{puts, within, with_put, IsBuilt, IsPut, BuildsMaps}
+use Rattle.sw_tree.specs.Meaning.{Meaning, meanings, parts}
+use Rattle.sw_tree.specs.Meant.{list_meaning, pair_meaning}
+use Rattle.sw_tree.specs.Mode.{at_key, at_value}
+use Rattle.sw_tree.specs.Placed.{pair_of}
 use Rattle.sw_tree.specs.Steps.{bind, traverse}
 use Rattle.sw_tree.specs.Tree.{Tree, entries, by_turns, map as node_map}
+use Rattle.sw_tree.specs.declared.mode.Mode.{Mode}
 use Rattle.sw_tree.specs.declared.fail.SerError.{SerError}
 use Rattle.sw_tree.specs.declared.fail.SerFail.{SerFail}
 use Rattle.sw_tree.specs.declared.fail.SerFail.TheVariants as ser
+use Rattle.sw_elem.specs.Equations.{Writes}
+use Rattle.sw_core.specs.Entries.{pair_writes, entries_writes}
 use Rattle.sw_core.specs.Inner.Iterated.{Iterates}
 use Rattle.sw_core.specs.Inner.Putting.{all_put_pairs}
 use Rattle.sw_core.specs.Laws.Iterated.{IsLeft}
+use Rattle.sw_core.specs.Laws.Putting.{map_opened, map_closed}
 
 -- ---- one pair
 
@@ -70,19 +77,34 @@ module _ {S X B : Type 0} (gives : S → Option (Bor X) → S → Type 0) (put :
   pub pairs_last : (out : B) (at next : S) → PairsLeft out at → gives at None next → whole ≡ Ok out
   pairs_last out at next h g = take_last out at next h.left h.comes h.same g
 
--- ---- the map that is not put in
+-- ---- the map
 
-module _ {S : Type 0} (put : Tree → S → S) (s old : S) where
-  not_put : (x : Result (List (Tree × Tree)) SerError) (e : SerError) → bind x (λ es. Ok (puts put (by_turns es) s)) ≡ Err e → with_put put (bind x (λ es. within (node_map (entries es)))) old ≡ Err e
-  not_put (Ok es) e h = absurd (cc)
-  not_put (Err d) e h = let same : d ≡ e = cc in ap (λ (z : SerError). Err z) same
+not_put : {S : Type 0} (put : Tree → S → S) (s old : S) (x : Result (List (Tree × Tree)) SerError) (e : SerError) → bind x (λ es. Ok (puts put (by_turns es) s)) ≡ Err e →
+    with_put put (bind x (λ es. within (node_map (entries es)))) old ≡ Err e
+not_put put s old (Ok es) e h = absurd (cc)
+not_put put s old (Err d) e h = let same : d ≡ e = cc in ap (λ (z : SerError). Err z) same
 
-  module _ (f : Meaning → Result (Tree × Tree) SerError) (vs : List Meaning) (new : S) where
-    map_refused_as : (e : SerFail) → IsBuilt (Err e) (all_put_pairs put f vs s) new → IsPut put (Err e) (bind (traverse f vs) (λ es. within (node_map (entries es)))) old new
-    map_refused_as (ser.Unwritable e) h = not_put (traverse f vs) e h
-    map_refused_as ser.Memory h = tt
+module _ {S A C : Type 0} (put : Tree → S → S) (k w : Writes) (f : A → Meaning) (g : C → Meaning) (m : Mode) (opened : Bool → S → S) (xs : List (A × C)) (old s : S) (begun : ◌≡◌ {A = Result S SerError} (Ok (opened true old)) (Ok s)) where
+  -- the pairs are put in one by one
+  abbrev pub put_pairs : Result S SerError
+  put_pairs = all_put_pairs put (pair_of (λ x. k (at_key m) (f x)) (λ y. w (at_value m) (g y))) xs s
 
-    -- why pairs aren't put in is why the map isn't
-    pub map_refused : (r : Result S SerError) (x : Result (Unit {0}) SerFail) (e : SerFail) → all_put_pairs put f vs s ≡ r → IsErrAnd x (λ d. d ≡ e) → IsBuilt (Err e) r new → IsPut put x (bind (traverse f vs) (λ es. within (node_map (entries es)))) old new
-    map_refused r (Ok u) e p k h = absurd k
-    map_refused r (Err d) e p k h = map_refused_as d (subst (λ (z : SerFail). IsBuilt (Err z) (all_put_pairs put f vs s) new) (sym k) (subst (λ q. IsBuilt (Err e) q new) (sym p) h))
+  abbrev whole : Result Tree SerError
+  whole = entries_writes k w m (list_meaning (pair_meaning f g) xs)
+
+  same : all_put_pairs put (pair_writes (k (at_key m)) (w (at_value m))) (parts (meanings (map (pair_meaning f g) xs))) (opened true old) ≡ put_pairs
+  same = map_opened put (k (at_key m)) (w (at_value m)) f g xs (opened true old) s begun
+
+  refused_on : (new : S) (e : SerFail) → IsBuilt (Err e) put_pairs new → IsPut put (Err e) whole old new
+  refused_on new (ser.Unwritable e) h = not_put put (opened true old) old (traverse (pair_writes (k (at_key m)) (w (at_value m))) (parts (meanings (map (pair_meaning f g) xs)))) e (same ∙ h)
+  refused_on new ser.Memory h = tt
+
+  -- why pairs aren't put in is why the map isn't
+  pub pairs_refused : (new : S) (x : Result (Unit {0}) SerFail) (e : SerFail) → IsErrAnd x (λ d. d ≡ e) → IsBuilt (Err e) put_pairs new → IsPut put x whole old new
+  pairs_refused new (Ok u) e q h = absurd q
+  pairs_refused new (Err d) e q h = refused_on new d (subst (λ (z : SerFail). IsBuilt (Err z) put_pairs new) (sym q) h)
+
+  -- what is opened, filled and closed is put in whole
+  pub pairs_closed : (closed : S → Result S SerError) → BuildsMaps put opened closed → (now new : S) (x : Result (Unit {0}) SerFail) → put_pairs ≡ Ok now → IsBuilt x (closed now) new → IsPut put x whole old new
+  pairs_closed closed maps now new x h q =
+      map_closed put opened closed maps (pair_writes (k (at_key m)) (w (at_value m))) (parts (meanings (map (pair_meaning f g) xs))) (pair_of (λ x. k (at_key m) (f x)) (λ y. w (at_value m) (g y))) [] old now new x (same ∙ h) refl q
