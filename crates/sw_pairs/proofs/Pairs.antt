@@ -30,7 +30,7 @@ module _ {B : Type 0} (put : Tree → B → B) (out : B) where
   -- one that is put in comes off the front
   one_put : (a : Result (Tree × Tree) SerError) (b : Result (List (Tree × Tree)) SerError) (now : B) → pair_built a ≡ Ok now →
       bind (bind a (λ e. bind b (λ es. Ok (e ∷ es)))) (λ es. Ok (puts put (by_turns es) out)) ≡ bind b (λ es. Ok (puts put (by_turns es) now))
-  one_put (Ok e) (Ok es) now p = let same : put e.1 (put e.0 out) ≡ now = cc in rw same refl
+  one_put (Ok e) (Ok es) now p = let same : put e.1 (put e.0 out) ≡ now = cc in ap (λ s. Ok (puts put (by_turns es) s)) same
   one_put (Ok e) (Err d) now p = refl
   one_put (Err d) b now p = absurd (cc)
 

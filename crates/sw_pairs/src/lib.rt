@@ -1,4 +1,4 @@
-//! Maps over collections of pairs: every entry is kept, in order.
+//! Maps over collections of pairs: entries with equal keys are all kept.
 #![tactic(auto)]
 
 mod each;

@@ -14,6 +14,7 @@ use Rattle.sw_tree.specs.declared.mode.Mode.{Mode}
 use Rattle.sw_check.specs.Blame.{IsSound}
 use Rattle.sw_check.specs.Form.{Form, map, map_set}
 use Rattle.sw_check.specs.Grade.{grade, worst}
+use Rattle.sw_check.specs.declared.grade.Grade.TheVariants.{Exact}
 use Rattle.sw_check.specs.Laws.SoundForms.{sound-map_set, map_set-map, exact_is}
 use Rattle.sw_elem.specs.Equations.{Writes, Reads, Spots, Skips, LawfulReading}
 use Rattle.sw_elem.specs.Statements.{Norm}
@@ -37,7 +38,7 @@ module _ {P Q : Meaning → Type 0} (R : Order) (o : Ranks P R) (S : Order) (p :
   same : (m : Mode) → IsSound (map_set e f) m → (v : Meaning) → IsSetOf (IsPairOf P Q) (pair_order R S) v → in_order (pair_order R S) old_stays (entries_norm n i m v) ≡ v
   same m h (list vs) c =
       let sound = sound-map_set e f m h in
-      let exact = λ j. worst (exact_is (grade e (at_key m)) sound.1.0 j) (exact_is (grade f (at_value m)) sound.1.1 j) in
+      let exact : grade (map e f) m ≡ Exact = λ j. worst (exact_is (grade e (at_key m)) sound.1.0 j) (exact_is (grade f (at_value m)) sound.1.1 j) in
       ap (in_order (pair_order R S) old_stays) ((entries_keeps keys values).exact m exact (list vs) c.0)
       ∙ ap (λ us. list (meanings us)) (sorted-same (IsPairOf P Q) (pair_order R S) old_stays (pair_ranks P Q R S o p) (old_joins (IsPairOf P Q) (pair_order R S)) (parts vs) c.0 c.1)
       ∙ ap list (meanings-parts vs)

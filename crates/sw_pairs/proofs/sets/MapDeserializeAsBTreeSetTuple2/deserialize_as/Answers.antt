@@ -1,7 +1,7 @@
 use Rattle.sw_tree.specs.Inner.View.{seen}
 use Rattle.sw_core.specs.Entries.{entries_reads, entries_spot}
 use Rattle.sw_pairs.proofs.PairSet.{pair_set_put}
-use Rattle.sw_pairs.proofs.sets.MapDeserializeAsBTreeSet.deserialize_as.Goals as goal
+use Rattle.sw_pairs.proofs.sets.MapDeserializeAsBTreeSetTuple2.deserialize_as.Goals as goal
 
 pub returns-clause-answer : goal.returns-clause-answer
 returns-clause-answer g c =

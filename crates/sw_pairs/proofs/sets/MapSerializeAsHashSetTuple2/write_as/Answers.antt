@@ -3,7 +3,7 @@ use Rattle.std.specs.Map.Iter.{deref}
 use Rattle.sw_tree.specs.Sorted.{sort_keys_onto}
 use Rattle.sw_core.specs.Laws.Iterated.{lent_iterates}
 use Rattle.sw_pairs.proofs.PairSet.{pair_cmp}
-use Rattle.sw_pairs.proofs.sets.MapSerializeAsHashSet.write_as.Goals as goal
+use Rattle.sw_pairs.proofs.sets.MapSerializeAsHashSetTuple2.write_as.Goals as goal
 
 pub returns : goal.returns
 returns g c =

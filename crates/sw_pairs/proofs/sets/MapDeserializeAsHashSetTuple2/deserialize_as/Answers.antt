@@ -3,7 +3,7 @@ use Rattle.sw_tree.specs.Inner.View.{seen}
 use Rattle.sw_tree.specs.Sorted.{sort_keys_onto}
 use Rattle.sw_core.specs.Entries.{entries_reads, entries_spot}
 use Rattle.sw_pairs.proofs.PairSet.{pair_cmp, pair_set_put}
-use Rattle.sw_pairs.proofs.sets.MapDeserializeAsHashSet.deserialize_as.Goals as goal
+use Rattle.sw_pairs.proofs.sets.MapDeserializeAsHashSetTuple2.deserialize_as.Goals as goal
 
 pub returns-clause-answer : goal.returns-clause-answer
 returns-clause-answer g c =
