@@ -1,5 +1,5 @@
 -- Pairs that are read as the entries of a map, and then put into a set in turn.
-use Rattle.std.proofs.Common.{◌≡◌, List, [], Result, Ok}
+use Rattle.std.proofs.Common.{◌≡◌, List, [], Ok}
 use Rattle.std.specs.Ordering.{ordering_then}
 use Rattle.std.specs.declared.cmp.Ordering.{Ordering}
 use Rattle.sw_tree.specs.Meaning.{Meaning}

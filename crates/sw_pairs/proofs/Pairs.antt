@@ -24,7 +24,7 @@ use Rattle.sw_core.specs.Laws.Putting.{map_opened, map_closed}
 
 module _ {B : Type 0} (put : Tree → B → B) (out : B) where
   -- the key's tree is put in, then the value's
-  abbrev pub pair_built : Result (Tree × Tree) SerError → Result B SerError
+  abbrev pair_built : Result (Tree × Tree) SerError → Result B SerError
   pair_built a = bind (bind a (λ e. Ok (e ∷ []))) (λ es. Ok (puts put (by_turns es) out))
 
   -- one that is put in comes off the front
