@@ -10,9 +10,9 @@ use sw_tree::mode::Mode;
 use sw_tree::skipped::Skipped;
 use sw_tree::view::View;
 
-/// A list of pairs as a map, as serde_with's `Map`. Keys go by `K`, values by `V`.
+/// A collection of pairs as a map, as serde_with's `Map`. Keys go by `K`, values by `V`.
 ///
-/// Every pair is kept, in order, those with equal keys too.
+/// Every pair is kept, in the collection's order, those with equal keys too.
 #[derive(PartialEq, Eq, PartialOrd, Ord, Hash)]
 pub struct Map<K, V> {
     parts: PhantomData<(K, V)>,

@@ -1,4 +1,6 @@
 use std::alloc::{AllocError, Global};
+use std::boxed::BoxedSlice;
+use std::collections::{BTreeSet, HashSet, LinkedList, VecDeque};
 use sw_check::blame::CheckFail;
 use sw_check::check;
 use sw_check::grade::Grade;
@@ -8,9 +10,11 @@ use sw_core::same::Same;
 use sw_elem::any::Any;
 use sw_pairs::free::is_map_free;
 use sw_pairs::map::Map;
-use sw_tree::fail::{SerError, SerFail};
+use sw_tree::doc::Doc;
+use sw_tree::fail::{DeFail, SerError, SerFail};
 use sw_tree::mode::{Mode, WireKind};
 use sw_tree::node::Node;
+use sw_tree::skipped::Skipped;
 
 type Flags = Map<Same, Same>;
 
@@ -67,4 +71,31 @@ fn a_list_is_a_key_of_the_compact_wire(rt: HostRuntime) {
 fn a_map_takes_memory(rt: HostRuntime) {
     assert!(rt; !is_map_free::<u8, u8, Same, Same>());
     assert!(rt; !<Flags as DeserializeAs<Vec<(u32, bool)>>>::FREE);
+    assert!(rt; !<Flags as DeserializeAs<VecDeque<(u32, bool)>>>::FREE);
+    assert!(rt; !<Flags as DeserializeAs<LinkedList<(u32, bool)>>>::FREE);
+    assert!(rt; !<Flags as DeserializeAs<BoxedSlice<(u32, bool)>>>::FREE);
+    assert!(rt; !<Flags as DeserializeAs<BTreeSet<(u32, bool)>>>::FREE);
+    assert!(rt; !<Flags as DeserializeAs<HashSet<(u32, bool)>>>::FREE);
+}
+
+/// The entries of the map that is written for an optional pair.
+fn entries_of(alloc: Global, pair: Option<(u32, bool)>) -> Result<Vec<(u32, bool)>, DeFail> {
+    let mode = Mode::plain(WireKind::Compact);
+    let Ok(node) = As::<Flags>::serialize(alloc, &pair, mode) else {
+        return Err(DeFail::Memory);
+    };
+    let doc = Doc::from_node(alloc, &node)?;
+    As::<Flags>::deserialize(alloc, doc.view(), mode, &mut Skipped::new(alloc))
+}
+
+#[test]
+fn an_optional_pair_is_a_map_of_one_entry_or_none(rt: HostRuntime) {
+    match entries_of(rt.alloc(), Some((7, true))) {
+        Ok(pairs) => assert!(rt; pairs.len() == 1 && pairs[0] == (7, true)),
+        Err(_) => assert!(rt; false),
+    }
+    match entries_of(rt.alloc(), None) {
+        Ok(pairs) => assert!(rt; pairs.is_empty()),
+        Err(_) => assert!(rt; false),
+    }
 }

@@ -1,0 +1,7 @@
+use Rattle.std.proofs.Common.{rules}
+use Rattle.std.specs.Map.Iter.{deref}
+use Rattle.sw_core.specs.Laws.Iterated.{list_iterates}
+use Rattle.sw_pairs.proofs.sequences.MapSerializeAsLinkedListTuple2.write_as.Goals as goal
+
+pub returns : goal.returns
+returns g c = c.write_pairs.ensures c.args.source.now (list_iterates deref c.args.source.now c.iter.result (search rules))

@@ -1,0 +1,2 @@
+pub mod PairSet
+pub mod Laws
