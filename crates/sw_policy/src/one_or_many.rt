@@ -1,7 +1,7 @@
 ghost use Rattle.std.specs.Prelude.{◌≡◌, [], ◌∷◌, MatchResult};
 
 use crate::options::choose;
-use crate::preference::Preference;
+use crate::preference::{Preference, lone};
 use std::alloc::{AllocError, Global};
 use std::marker::PhantomData;
 use sw_check::expr::Expr;
@@ -43,11 +43,9 @@ impl<T: Meant, A: SerializeAs<T>, F: Preference> SerializeAs<Vec<T>> for OneOrMa
         source: &Vec<T>,
         mode: Mode,
     ) -> Result<(), SerFail> {
-        let values = source.as_slice();
-        if F::ALONE && values.len() == 1 {
-            A::write_as(alloc, out, &values[0], mode.value())
-        } else {
-            <Vec<A> as SerializeAs<Vec<T>>>::write_as(alloc, out, source, mode)
+        match lone::<T, F, _>(source.len(), source.iter()) {
+            Some(item) => A::write_as(alloc, out, item, mode.value()),
+            None => <Vec<A> as SerializeAs<Vec<T>>>::write_as(alloc, out, source, mode),
         }
     }
 }
