@@ -1,9 +1,8 @@
--- Which item of a collection stands alone, and what is written by it.
-use Rattle.std.proofs.Common.{◌≡◌, ◌≢◌, Bool, true, false, List, [], ◌∷◌, length, Option, Some, None, MatchOption, option_map, Bor, Result, refl, ap, sym, subst, ◌∙◌, arith}
+-- What is written where an item stands alone, and where none does; and that a set in order has the same one alone.
+use Rattle.std.proofs.Common.{◌≡◌, Bool, true, false, List, [], ◌∷◌, Some, None, Result, refl, ap, sym, subst, ◌∙◌}
 use Rattle.std.specs.BTreeSet.{insert_key}
 use Rattle.std.specs.Cmp.{IsTotalOrder}
 use Rattle.std.specs.List.{IsDistinct}
-use Rattle.std.specs.Map.Iter.{deref}
 use Rattle.std.specs.Ordering.{ordering_reverse, is_eq, match_ordering}
 use Rattle.std.specs.declared.cmp.Ordering.{Ordering}
 use Rattle.std.specs.declared.cmp.Ordering.TheVariants.{Less, Equal, Greater}
@@ -16,35 +15,9 @@ use Rattle.sw_tree.specs.Tree.{Tree}
 use Rattle.sw_tree.specs.declared.mode.Mode.{Mode}
 use Rattle.sw_tree.specs.declared.fail.SerFail.{SerFail}
 use Rattle.sw_elem.specs.Equations.{Writes}
-use Rattle.sw_core.specs.Inner.Iterated.{Iterates}
 use Rattle.sw_core.specs.Vec.{list_writes}
 use Rattle.sw_policy.specs.Inner.Lone.{lone_of}
 use Rattle.sw_policy.specs.OneOrMany.{one_or_many_writes}
-
--- ---- which item stands alone
-
--- none, where none may
-pub none_may : {T : Type 0} (b : Bool) (xs : List T) → b ≡ false → None ≡ lone_of b xs
-none_may true xs h = absurd (cc)
-none_may false xs h = refl
-
--- none, where there are fewer or more
-pub none_is : {T : Type 0} (b : Bool) (xs : List T) → length xs ≢ 1 → None ≡ lone_of b xs
-none_is false xs h = refl
-none_is true [] h = refl
-none_is true (x ∷ []) h = absurd (h refl)
-none_is true (x ∷ y ∷ xs) h = refl
-
-shown : {T : Type 0} (Q : Bor T → Type 0) (x : T) (r : Option (Bor T)) → MatchOption r ⊥ (λ a. (deref a ≡ x) × Q a) → option_map deref r ≡ Some x
-shown Q x None h = absurd h
-shown Q x (Some a) h = ap Some h.0
-
--- the first that comes, where it is the only one
-pub first_is : {S T : Type 0} (gives : S → Option (Bor T) → S → Type 0) (b : Bool) (xs : List T) (s t : S) (r : Option (Bor T)) → b ≡ true → length xs ≡ 1 → Iterates deref gives xs s → gives s r t → option_map deref r ≡ lone_of b xs
-first_is gives false xs s t r e n i g = absurd (cc)
-first_is gives true [] s t r e n i g = absurd (cc)
-first_is gives true (x ∷ []) s t r e n i g = shown (λ _. Iterates deref gives [] t) x r (i r t g)
-first_is gives true (x ∷ y ∷ xs) s t r e n i g = absurd (omega arith)
 
 -- ---- what is written
 
@@ -69,7 +42,7 @@ module _ {B T : Type 0} (put : Tree → B → B) (b : Bool) (w : Writes) (m : Mo
   pub many_put : None ≡ lone_of b xs → IsPut put result (list_writes w m (list_meaning f xs)) out new → IsPut put result (one_or_many_writes b w m (list_meaning f xs)) out new
   many_put h p = subst (λ r. IsPut put result r out new) (many_written b w m f xs h) p
 
--- ---- distinct items in order
+-- ---- a set in order
 
 module _ {K : Type 0} where
   abbrev HasTwo : List K → Type 0

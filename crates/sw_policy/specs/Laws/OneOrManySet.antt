@@ -6,7 +6,7 @@ use Rattle.sw_tree.specs.Laws.Meaning.{meanings-parts}
 use Rattle.sw_tree.specs.Meant.{IsListOf}
 use Rattle.sw_tree.specs.Mode.{at_value, marked}
 use Rattle.sw_tree.specs.Ranks.{Order, Ranks}
-use Rattle.sw_tree.specs.Sorted.{IsSetOf, sorted, old_stays}
+use Rattle.sw_tree.specs.Sorted.{IsSetOf, old_stays}
 use Rattle.sw_tree.specs.Laws.Sorted.{old_joins, sorted-same}
 use Rattle.sw_tree.specs.declared.mode.Mode.{Mode}
 use Rattle.sw_check.specs.Blame.{IsSound}
