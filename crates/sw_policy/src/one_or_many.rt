@@ -15,6 +15,9 @@ use sw_tree::view::View;
 
 /// One value by itself or a list of values, each by `A` in value place, as serde_with's `OneOrMany`.
 ///
+/// It stands over `Vec`, `VecDeque`, `LinkedList` and `BoxedSlice`, and over `BTreeSet` and `HashSet`, whose
+/// items are written in ascending order; of equal items that are read the first stays.
+///
 /// Under `PreferOne` a collection of one element is written as that element, any other as a list;
 /// under `PreferMany` each is a list. The first part that isn't written decides; without one, a list
 /// of which a part has 128 levels is `TooDeep`.
