@@ -1,2 +1,2 @@
 pub mod Refusals
-pub mod Forms
+pub mod Lone

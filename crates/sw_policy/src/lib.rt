@@ -3,6 +3,8 @@
 
 pub mod free;
 pub mod one_or_many;
+pub mod one_or_many_list;
+pub mod one_or_many_set;
 mod options;
 pub mod pick_first;
 pub mod preference;

@@ -1,7 +1,7 @@
 ghost use Rattle.std.specs.Prelude.{◌≡◌, [], ◌∷◌, MatchResult};
 
 use crate::options::choose;
-use crate::preference::Preference;
+use crate::preference::{Preference, lone};
 use std::alloc::{AllocError, Global};
 use std::marker::PhantomData;
 use sw_check::expr::Expr;
@@ -14,6 +14,9 @@ use sw_tree::skipped::Skipped;
 use sw_tree::view::View;
 
 /// One value by itself or a list of values, each by `A` in value place, as serde_with's `OneOrMany`.
+///
+/// It stands over `Vec`, `VecDeque`, `LinkedList` and `BoxedSlice`, and over `BTreeSet` and `HashSet`, whose
+/// items are written in ascending order; of equal items that are read the first stays.
 ///
 /// Under `PreferOne` a collection of one element is written as that element, any other as a list;
 /// under `PreferMany` each is a list. The first part that isn't written decides; without one, a list
@@ -43,11 +46,9 @@ impl<T: Meant, A: SerializeAs<T>, F: Preference> SerializeAs<Vec<T>> for OneOrMa
         source: &Vec<T>,
         mode: Mode,
     ) -> Result<(), SerFail> {
-        let values = source.as_slice();
-        if F::ALONE && values.len() == 1 {
-            A::write_as(alloc, out, &values[0], mode.value())
-        } else {
-            <Vec<A> as SerializeAs<Vec<T>>>::write_as(alloc, out, source, mode)
+        match lone::<T, F, _>(source.len(), source.iter()) {
+            Some(item) => A::write_as(alloc, out, item, mode.value()),
+            None => <Vec<A> as SerializeAs<Vec<T>>>::write_as(alloc, out, source, mode),
         }
     }
 }

@@ -1,3 +1,8 @@
+ghost use Rattle.std.specs.Map.Iter.{deref};
+ghost use Rattle.std.specs.Prelude.{◌≡◌, List, length, option_map};
+ghost use Rattle.sw_core.specs.Inner.Iterated.{Iterates};
+ghost use Rattle.sw_policy.specs.Inner.Lone.{lone_of};
+
 use crate::sealed::Sealed;
 use sw_core::formats::{Format, PreferMany, PreferOne};
 
@@ -5,7 +10,7 @@ use sw_core::formats::{Format, PreferMany, PreferOne};
 pub trait Preference: Format + Sealed {
     ghost use Rattle.std.specs.Prelude.{Bool};
 
-    /// Whether a list of one element is written as that element alone.
+    /// Whether a collection of one element is written as that element alone.
     const ALONE: bool;
 
     ghost ALONE: { Bool };
@@ -25,4 +30,20 @@ impl Preference for PreferMany {
     const ALONE: bool = false;
 
     ghost ALONE = { false };
+}
+
+/// The item that a collection of so many is written as, where it is written as no list: the only one, under
+/// `PreferOne`.
+pub(crate) fn lone<'a, T: 'a, F: Preference, I: Iterator<Item = &'a T> + Drop>(
+    count: usize,
+    mut items: I,
+) -> Option<&'a T>
+    requires { I.can_next items }
+    ensures { (xs : List T) → Iterates deref I.next_gives xs items → count ≡ length xs → option_map deref result ≡ lone_of F.ALONE xs }
+{
+    if F::ALONE && count == 1 {
+        items.next()
+    } else {
+        None
+    }
 }

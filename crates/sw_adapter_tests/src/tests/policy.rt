@@ -1,3 +1,5 @@
+use std::boxed::BoxedSlice;
+use std::collections::{BTreeSet, HashSet, LinkedList, VecDeque};
 use sw_core::adapter::DeserializeAs;
 use sw_core::display::DisplayFromStr;
 use sw_core::formats::PreferOne;
@@ -12,4 +14,13 @@ fn a_choice_between_free_options_is_free(rt: HostRuntime) {
     assert!(rt; <PickFirst<(Same, DisplayFromStr)> as DeserializeAs<u32>>::FREE);
     assert!(rt; !<PickFirst<(Same, DisplayFromStr)> as DeserializeAs<String>>::FREE);
     assert!(rt; !<Names as DeserializeAs<Vec<String>>>::FREE);
+}
+
+#[test]
+fn no_collection_of_one_or_many_is_free(rt: HostRuntime) {
+    assert!(rt; !<Names as DeserializeAs<VecDeque<u32>>>::FREE);
+    assert!(rt; !<Names as DeserializeAs<LinkedList<u32>>>::FREE);
+    assert!(rt; !<Names as DeserializeAs<BoxedSlice<u32>>>::FREE);
+    assert!(rt; !<Names as DeserializeAs<BTreeSet<u32>>>::FREE);
+    assert!(rt; !<Names as DeserializeAs<HashSet<u32>>>::FREE);
 }

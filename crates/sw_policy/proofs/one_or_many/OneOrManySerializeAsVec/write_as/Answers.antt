@@ -1,21 +1,17 @@
-use Rattle.std.proofs.Common.{◌≡◌, List, length, subst, sym, ap, ◌∙◌}
-use Rattle.sw_tree.specs.Meant.{list_meaning}
-use Rattle.sw_tree.specs.Building.{IsPut}
-use Rattle.sw_core.specs.Vec.{list_writes}
-use Rattle.sw_policy.specs.OneOrMany.{one_or_many_writes}
-use Rattle.sw_policy.proofs.Forms.{many_written, list_written}
+use Rattle.std.proofs.Common.{rules}
+use Rattle.std.specs.Slice.Iter.{iter_rest}
+use Rattle.sw_core.specs.Laws.Iterated.{rest_iterates}
+use Rattle.sw_policy.proofs.Lone.{alone_put, many_put}
 use Rattle.sw_policy.proofs.one_or_many.OneOrManySerializeAsVec.write_as.Goals as goal
-use Rattle.sw_policy.proofs.one_or_many.OneOrManySerializeAsVec.write_as.Goals.{else-ALONE-via-then-ALONE+else-values-eq1, else-ALONE-via-else-ALONE}
 
-pub returns-else-ALONE : goal.returns-else-ALONE
-returns-else-ALONE g c =
-    let b = g.F.Preference.ALONE in
-    let writes = g.A.SerializeAs.writes in
-    let f = g.T.Named.meaning in
+pub returns-in-Some : goal.returns-in-Some
+returns-in-Some g c =
     let xs = c.args.source.now.items in
-    let is : one_or_many_writes b writes c.args.mode (list_meaning f xs) ≡ list_writes writes c.args.mode (list_meaning f xs) =
-    elim c.else-ALONE.branch [
-      | else-ALONE-via-then-ALONE+else-values-eq1 w ↦ many_written b writes c.args.mode f xs (λ e. w.if-values-eq1.false (ap (λ (vs : List g.row.T.Denot). length vs) c.as_slice-values.ensures.value ∙ e))
-      | else-ALONE-via-else-ALONE w ↦ list_written b writes c.args.mode (list_meaning f xs) (sym c.ALONE.ensures ∙ w.if-ALONE.false)
-    ] in
-    subst (λ r. IsPut g.B.Builds.put c.write_as-else-ALONE.result r c.args.out.now c.write_as-else-ALONE.new.out) (sym is) c.write_as-else-ALONE.ensures
+    alone_put g.B.Builds.put g.F.Preference.ALONE g.A.SerializeAs.writes c.args.mode g.T.Named.meaning xs c.args.out.now c.write_as.new.out c.write_as.result c.in-Some.item.now
+    (c.in-Some.ensures xs (rest_iterates iter_rest xs c.iter.result (search rules)) (search rules)) (rw c.value.ensures at c.write_as.ensures)
+
+pub returns-in-None : goal.returns-in-None
+returns-in-None g c =
+    let xs = c.args.source.now.items in
+    many_put g.B.Builds.put g.F.Preference.ALONE g.A.SerializeAs.writes c.args.mode g.T.Named.meaning xs c.args.out.now c.write_as-in-None.new.out c.write_as-in-None.result
+    (c.in-None.ensures xs (rest_iterates iter_rest xs c.iter.result (search rules)) (search rules)) c.write_as-in-None.ensures
