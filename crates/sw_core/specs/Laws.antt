@@ -18,6 +18,7 @@ pub mod Fields
 pub mod Record
 pub mod OptionalPair
 pub mod OrderedMap
+pub mod MapList
 pub mod InOrder
 pub mod Set
 pub mod Display

@@ -11,6 +11,7 @@ pub mod Fields
 pub mod Record
 pub mod OptionalPair
 pub mod OrderedMap
+pub mod MapList
 pub mod Set
 pub mod Display
 pub mod Faithful

@@ -18,6 +18,7 @@ pub mod free;
 pub mod hashed_map;
 pub mod hashed_set;
 pub mod linked;
+pub mod map_list;
 pub mod option;
 pub mod optional_pair;
 pub mod ordered_map;
