@@ -19,6 +19,7 @@ pub mod Record
 pub mod OptionalPair
 pub mod OrderedMap
 pub mod MapList
+pub mod EntryArray
 pub mod InOrder
 pub mod Set
 pub mod Display

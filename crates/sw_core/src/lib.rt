@@ -11,6 +11,7 @@ pub mod deque;
 pub mod display;
 mod each;
 pub mod entries;
+pub mod entry_array;
 pub mod faithful;
 pub mod fields;
 pub mod formats;

@@ -82,8 +82,7 @@ impl<K: Keyed, V: Meant, KA: DeserializeAs<K>, VA: DeserializeAs<V>> Deserialize
 }
 
 /// It is as faithful as its values, where its keys are exact: else two keys might be read as one.
-impl<K: Keyed, V: Meant, KA: Adapter<K>, VA: Adapter<V>> Adapter<BTreeMap<K, V>>
-    for Vec<(KA, VA)> {
+impl<K: Keyed, V: Meant, KA: Adapter<K>, VA: Adapter<V>> Adapter<BTreeMap<K, V>> for Vec<(KA, VA)> {
     ghost use Rattle.sw_check.specs.Form.{pairs};
     ghost use Rattle.sw_core.specs.OrderedMap.{ordered_map_norm};
     ghost use Rattle.sw_core.specs.Tuple.{tuple_assumes};
@@ -187,13 +186,7 @@ fn write_tuples<
     VA: SerializeAs<V>,
     B: Builds,
     I: Iterator<Item = (&'a K, &'a V)>,
->(
-    alloc: Global,
-    out: &mut B,
-    count: usize,
-    entries: I,
-    mode: Mode,
-) -> Result<(), SerFail>
+>(alloc: Global, out: &mut B, count: usize, entries: I, mode: Mode) -> Result<(), SerFail>
     requires can { I.can_next entries }
     requires ends { IsFinite (I.remaining entries) }
     ensures { (es : List (K × V)) → Iterates deref_pair I.next_gives es entries → IsPut B.put result (map_list_writes KA.writes VA.writes mode (list_meaning (pair_meaning K.meaning V.meaning) es)) out.old out.new }
