@@ -55,4 +55,4 @@ module _ {P Q : Meaning → Type 0} (R : Order) (o : Ranks P R) {w x : Writes} {
 
   pub map_list_keeps : Lawful (IsMapOf P R Q) (map_list_writes w x) (map_list_reads R r s k q z l) (map_list_spot r s k q z l) (map_list_skips r s k q z l) (pairs e f) (ordered_map_norm i) (tuple_assumes (a ∷ b ∷ []))
   map_list_keeps =
-      ordered_keeps (list_keeps (pair_keeps (kept keys) (kept values))) (by_first R) value_replaced (pairs e f) (ordered_map_norm i) (list_form e f) same (λ m g. map_exact R i m (values.exact (at_value m) g)) (map_norms R i values.norms)
+      ordered_keeps (list_keeps (pair_keeps (kept keys) (kept values))) (by_first R) value_replaced (pairs e f) (ordered_map_norm i) (list_form e f) same (λ m g. map_exact P Q R i m (values.exact (at_value m) g)) (map_norms P Q R i values.norms)

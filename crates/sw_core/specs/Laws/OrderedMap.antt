@@ -120,7 +120,7 @@ module _ (P Q : Meaning → Type 0) (f : Meaning → Meaning) where
   pair_exact values (list (meaning a (meaning b no_meanings))) h = ap (λ x. pair a x) (values b h.1)
   pair_exact values _ h = absurd h
 
-module _ {P Q : Meaning → Type 0} (R : Order) (i : Norm) where
+module _ (P Q : Meaning → Type 0) (R : Order) (i : Norm) where
   pub map_norms : NormsWithin Q i → NormsWithin (IsMapOf P R Q) (ordered_map_norm i)
   map_norms within m (list vs) h =
       let g = pair_norm (λ x. x) (i (at_value m)) in
@@ -154,4 +154,4 @@ module _ {P Q : Meaning → Type 0} (R : Order) (o : Ranks P R) {w x : Writes} {
 
   pub ordered_map_keeps : Lawful (IsMapOf P R Q) (entries_writes w x) (ordered_map_reads R r s k q z l) (entries_spot r s k q z l) (entries_skips r s k q z l) (key_map e f) (ordered_map_norm i) (a × b)
   ordered_map_keeps =
-      ordered_keeps (entries_keeps keys values) (by_first R) value_replaced (key_map e f) (ordered_map_norm i) (map_form e f) same (λ m g. map_exact R i m (values.exact (at_value m) g)) (map_norms R i values.norms)
+      ordered_keeps (entries_keeps keys values) (by_first R) value_replaced (key_map e f) (ordered_map_norm i) (map_form e f) same (λ m g. map_exact P Q R i m (values.exact (at_value m) g)) (map_norms P Q R i values.norms)
