@@ -77,7 +77,8 @@ module _ {A B : Type 0} (f : A → Meaning) (g : B → Meaning) (key value : Rea
     pub short : rest ≡ [] → (answers (take n all) ≡ Ok (all_both f g (take (length all) held))) × (log ≡ old ++ logged (take n all))
     short e =
         let none : take h.left rest ≡ [] = ap (take h.left) e ∙ take-none h.left in
-        let count : length all ≡ index = h.found ∙ ap (λ (l : List (Seen × Seen)). index + length l) e in
+        let nothing : length rest ≡ 0 = ap (λ (l : List (Seen × Seen)). length l) e in
+        let count : length all ≡ index = omega (arith, h.found, nothing) in
         ended none (ap (λ (k : ℕ). take k held) (sym count))
 
     -- all that is wanted is there
@@ -101,33 +102,33 @@ module _ {A B : Type 0} (f : A → Meaning) (g : B → Meaning) (key value : Rea
       one_more zero c = absurd (omega (arith, c, l))
       one_more (suc j) c = (j, refl)
 
-      -- one more is to be read, and so many behind it
-      more : ℕ
-      more = (one_more h.left h.count).0
+      -- one is to be read now, and so many behind it
+      now_left : (k : ℕ) × (h.left ≡ suc k)
+      now_left = one_more h.left h.count
 
-      this : take h.left rest ≡ s ∷ take more ss
-      this = ap (λ (k : ℕ). take k rest) (one_more h.left h.count).1 ∙ ap (take (suc more)) first
+      this : take h.left rest ≡ s ∷ take now_left.0 ss
+      this = ap (λ (k : ℕ). take k rest) now_left.1 ∙ ap (take (suc now_left.0)) first
 
       pub refused : (e : Refusal) → seen_reads rs two ≡ Err e → answers (take n all) ≡ Err e
-      refused e p = entry_refused key value (take h.left rest) s (take more ss) this (answers (take n all)) got e h.answer p
+      refused e p = entry_refused key value (take h.left rest) s (take now_left.0 ss) this (answers (take n all)) got e h.answer p
 
       pub refused_logs : (e : Refusal) (new : List Refusal) → seen_reads rs two ≡ Err e → new ≡ log ++ seen_logs rs two → new ≡ old ++ logged (take n all)
-      refused_logs e new p i = entry_refused_logs key value (take h.left rest) s (take more ss) this old log new (logged (take n all)) h.logs e p i
+      refused_logs e new p i = entry_refused_logs key value (take h.left rest) s (take now_left.0 ss) this old log new (logged (take n all)) h.logs e p i
 
       pub cut : (new : List Refusal) → IsCut log new (seen_logs rs two) → IsCut old new (logged (take n all))
-      cut new c = entry_cut key value (take h.left rest) s (take more ss) this old log new (logged (take n all)) h.logs c
+      cut new c = entry_cut key value (take h.left rest) s (take now_left.0 ss) this old log new (logged (take n all)) h.logs c
 
       pub next : (pair : A × B) (new : List Refusal) → seen_reads rs two ≡ Ok (both f g pair) → new ≡ log ++ seen_logs rs two → FillingPairs (index + 1) (set held index pair) ss new
       next pair new p i =
           let put : all_both f g (take (index + 1) (set held index pair)) ≡ got ++ both f g pair =
           ap (all_both f g) (take_more_set held index pair (omega (arith, l, h.room))) ∙ all_both-push f g (take index held) pair in
           record {
-            left = more;
-            count = omega (arith, h.count, (one_more h.left h.count).1);
+            left = now_left.0;
+            count = omega (arith, h.count, now_left.1);
             room = length-set held index pair ∙ h.room;
             found = omega (arith, h.found, ap (λ (l : List (Seen × Seen)). length l) first);
-            answer = entry_read key value (take h.left rest) s (take more ss) this (answers (take n all)) got (both f g pair) (all_both f g (take (index + 1) (set held index pair))) h.answer p put;
-            logs = entry_gained key value (take h.left rest) s (take more ss) this old log new (logged (take n all)) h.logs (both f g pair) p i;
+            answer = entry_read key value (take h.left rest) s (take now_left.0 ss) this (answers (take n all)) got (both f g pair) (all_both f g (take (index + 1) (set held index pair))) h.answer p put;
+            logs = entry_gained key value (take h.left rest) s (take now_left.0 ss) this old log new (logged (take n all)) h.logs (both f g pair) p i;
           }
 
 -- ---- the map whose entries they are

@@ -1,7 +1,7 @@
 //! Arrays of pairs that are read from the entries of a map, of which there have to be as many.
 #![tactic(auto, using(sw_tree::specs::Laws::Logs::gains))]
 
-ghost use Rattle.std.specs.Prelude.{length, take};
+ghost use Rattle.std.specs.Prelude.{◌≡◌, length, take, IfOk};
 ghost use Rattle.sw_tree.specs.Meant.{list_meaning, pair_meaning};
 ghost use Rattle.sw_tree.specs.Mode.{at_key, at_value};
 ghost use Rattle.sw_tree.specs.Placed.{placed, placed_notes};
@@ -87,6 +87,7 @@ fn fill_in_turn<
         (turns_by (reader K.reads K.spot K.skips (at_key mode)) (reader V.reads V.spot V.skips (at_value mode)) (take N entries.entry))
         (seen_turns (take N entries.entry)))
         log.new }
+    ensures room { IfOk result (λ pairs. length pairs ≡ N) }
 {
     let mut pairs = [(T::default(), U::default()); N];
     for index in 0..N {

@@ -23,23 +23,23 @@ returns-in-Err-Memory-clause-logs g c =
     let value = g.V.DeserializeAs in
     subst (IsCut c.args.log.now c.fill_in_turn.new.log) (array_logged g.row.N key.reads key.spot key.skips value.reads value.spot value.skips c.args.mode (seen c.args.view) c.in-Some.entries c.in-Some.ensures) (rw c.in-Err-Memory.field-0-is at c.in-Err-Memory.ensures.logs)
 
-pub returns-then-count-neN-clause-answer : goal.returns-then-count-neN-clause-answer
-returns-then-count-neN-clause-answer g c =
+pub returns-then-count-clause-answer : goal.returns-then-count-clause-answer
+returns-then-count-clause-answer g c =
     let key = g.K.DeserializeAs in
     let value = g.V.DeserializeAs in
-    rw c.refused_at-then-count-neN.ensures (array_counted g.row.N key.reads key.spot key.skips value.reads value.spot value.skips c.args.mode (seen c.args.view) c.in-Some.entries c.in-Some.ensures (all_both g.T.Named.meaning g.U.Named.meaning (take (length c.in-Some.entries) c.in-Ok.pairs)) c.len-count.result (c.len-count.ensures.entries c.in-Some.entries (sym c.in-Some.ensures)) c.if-count-neN.true c.in-Ok.ensures.answer)
+    rw c.refused_at-then-count.ensures (array_counted g.row.N key.reads key.spot key.skips value.reads value.spot value.skips c.args.mode (seen c.args.view) c.in-Some.entries c.in-Some.ensures (all_both g.T.Named.meaning g.U.Named.meaning (take (length c.in-Some.entries) c.in-Ok.pairs)) c.len-count.result (c.len-count.ensures.entries c.in-Some.entries (sym c.in-Some.ensures)) c.if-count.true c.in-Ok.ensures.answer)
 
-pub returns-then-count-neN-clause-logs : goal.returns-then-count-neN-clause-logs
-returns-then-count-neN-clause-logs g c =
+pub returns-then-count-clause-logs : goal.returns-then-count-clause-logs
+returns-then-count-clause-logs g c =
     let key = g.K.DeserializeAs in
     let value = g.V.DeserializeAs in
-    rw c.refused_at-then-count-neN.ensures (subst (λ ls. c.fill_in_turn.new.log ≡ c.args.log.now ++ ls) (array_logged g.row.N key.reads key.spot key.skips value.reads value.spot value.skips c.args.mode (seen c.args.view) c.in-Some.entries c.in-Some.ensures) c.in-Ok.ensures.logs)
+    rw c.refused_at-then-count.ensures (subst (λ ls. c.fill_in_turn.new.log ≡ c.args.log.now ++ ls) (array_logged g.row.N key.reads key.spot key.skips value.reads value.spot value.skips c.args.mode (seen c.args.view) c.in-Some.entries c.in-Some.ensures) c.in-Ok.ensures.logs)
 
 pub returns-clause-answer : goal.returns-clause-answer
 returns-clause-answer g c =
     let key = g.K.DeserializeAs in
     let value = g.V.DeserializeAs in
-    array_made g.row.N key.reads key.spot key.skips value.reads value.spot value.skips c.args.mode (seen c.args.view) c.in-Some.entries c.in-Some.ensures g.T.Named.meaning g.U.Named.meaning c.in-Ok.pairs ? ((c.len-count.ensures.entries c.in-Some.entries (sym c.in-Some.ensures)) ∙ c.if-count-neN.false) c.in-Ok.ensures.answer
+    array_made g.row.N key.reads key.spot key.skips value.reads value.spot value.skips c.args.mode (seen c.args.view) c.in-Some.entries c.in-Some.ensures g.T.Named.meaning g.U.Named.meaning c.in-Ok.pairs c.in-Ok.ensures.room ((c.len-count.ensures.entries c.in-Some.entries (sym c.in-Some.ensures)) ∙ c.if-count.false) c.in-Ok.ensures.answer
 
 pub returns-clause-logs : goal.returns-clause-logs
 returns-clause-logs g c =
