@@ -32,6 +32,18 @@ def entries(count):
     return "{" + ",".join(f'"{n}":{n}' for n in numbers(count)) + "}"
 
 
+def labelled(count):
+    return "{" + ",".join(f'"{n}":"{n}"' for n in numbers(count)) + "}"
+
+
+def pairs(count):
+    return "[" + ",".join(f'[{n},"{n}"]' for n in numbers(count)) + "]"
+
+
+def lists(count):
+    return "[" + ",".join(f"[{n},{n}]" for n in numbers(count)) + "]"
+
+
 NESTS = [
     ("Vec<DisplayFromStr> of Vec<u32>", texts, "[]"),
     ("VecDeque<DisplayFromStr> of VecDeque<u32>", texts, "[]"),
@@ -41,12 +53,14 @@ NESTS = [
     ("HashSet<DisplayFromStr> of HashSet<u32>", texts, "[]"),
     ("BTreeMap<Same, Same> of Vec<(u32, u32)>", entries, "{}"),
     ("HashMap<Same, Same> of HashMap<u32, u32>", entries, "{}"),
-    ("BTreeMap<Same, DisplayFromStr> of BTreeMap<String, u32>", None, "{}"),
+    ("BTreeMap<Same, DisplayFromStr> of BTreeMap<String, u32>", labelled, "{}"),
+    ("Map<Same, DisplayFromStr> of LinkedList<(u32, u32)>", labelled, "{}"),
+    ("Map<Same, DisplayFromStr> of HashSet<(u32, u32)>", labelled, "{}"),
+    ("Vec<(Same, DisplayFromStr)> of BTreeMap<u32, u32>", pairs, "[]"),
+    ("Seq<(Same, Same)> of HashMap<u32, u32>", lists, "[]"),
+    ("OneOrMany<DisplayFromStr, PreferOne> of VecDeque<u32>", texts, "[]"),
+    ("OneOrMany<DisplayFromStr, PreferOne> of BTreeSet<u32>", texts, "[]"),
 ]
-
-
-def labelled(count):
-    return "{" + ",".join(f'"{n}":"{n}"' for n in numbers(count)) + "}"
 
 
 def took(nest, text):
@@ -73,7 +87,6 @@ def main():
     runs = int(sys.argv[1]) if len(sys.argv) > 1 else 5
     print(f"{'nest':58}" + "".join(f"{n:>10}" for n in LENGTHS) + "   ms; then each over the one before")
     for nest, make, empty in NESTS:
-        make = make or labelled
         base = best(nest, empty, runs)
         times = [max(best(nest, make(n), runs) - base, 1e-6) for n in LENGTHS]
         ratios = [later / earlier for earlier, later in zip(times, times[1:])]

@@ -5,7 +5,7 @@ use serde::ser::{Serialize, Serializer};
 use std::collections::{BTreeMap, BTreeSet, LinkedList, VecDeque};
 use std::fmt::{self, Display};
 use std::marker::PhantomData;
-use std::ops::Bound;
+use std::ops::{Bound, Range, RangeFrom, RangeInclusive, RangeTo};
 use std::str::FromStr;
 
 /// What holds a value of `T`, and may be made of one.
@@ -170,6 +170,58 @@ impl<T, A: Holds<T>, const N: usize> Holds<[T; N]> for [A; N] {
     }
     fn value(self) -> [T; N] {
         self.map(A::value)
+    }
+}
+
+impl<T, A: Holds<T>> Holds<Range<T>> for Range<A> {
+    fn of(value: Range<T>) -> Self {
+        A::of(value.start)..A::of(value.end)
+    }
+    fn value(self) -> Range<T> {
+        self.start.value()..self.end.value()
+    }
+}
+
+impl<T, A: Holds<T>> Holds<RangeInclusive<T>> for RangeInclusive<A> {
+    fn of(value: RangeInclusive<T>) -> Self {
+        let (start, end) = value.into_inner();
+        A::of(start)..=A::of(end)
+    }
+    fn value(self) -> RangeInclusive<T> {
+        let (start, end) = self.into_inner();
+        start.value()..=end.value()
+    }
+}
+
+/// A range with a start alone. The serde of Debian reads none of std's.
+#[derive(serde::Serialize, serde::Deserialize)]
+#[serde(deny_unknown_fields)]
+pub struct From<A> {
+    start: A,
+}
+
+impl<T, A: Holds<T>> Holds<RangeFrom<T>> for From<A> {
+    fn of(value: RangeFrom<T>) -> Self {
+        From { start: A::of(value.start) }
+    }
+    fn value(self) -> RangeFrom<T> {
+        self.start.value()..
+    }
+}
+
+/// A range with an end alone.
+#[derive(serde::Serialize, serde::Deserialize)]
+#[serde(deny_unknown_fields)]
+pub struct To<A> {
+    end: A,
+}
+
+impl<T, A: Holds<T>> Holds<RangeTo<T>> for To<A> {
+    fn of(value: RangeTo<T>) -> Self {
+        To { end: A::of(value.end) }
+    }
+    fn value(self) -> RangeTo<T> {
+        ..self.end.value()
     }
 }
 

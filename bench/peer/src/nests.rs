@@ -1,11 +1,11 @@
 //! The nests by their names in `sw_examples`.
 
-use crate::adapters::{Aside, AtMostOne, Choice, Holds, Pairs, PreferMany, PreferOne, Same, Shown};
+use crate::adapters::{Aside, AtMostOne, Choice, From, Holds, Pairs, PreferMany, PreferOne, Same, Shown, To};
 use serde::{de::DeserializeOwned, Serialize};
 use serde_json::Value;
 use std::collections::{BTreeMap, BTreeSet, LinkedList, VecDeque};
 use std::num::NonZeroU8;
-use std::ops::Bound;
+use std::ops::{Bound, Range, RangeFrom, RangeInclusive, RangeTo};
 
 /// The text that `S` writes for what `R` reads; none where either refuses.
 fn apart<R: Holds<T> + DeserializeOwned, S: Holds<T> + Serialize, T>(text: &str) -> Option<String> {
@@ -15,6 +15,32 @@ fn apart<R: Holds<T> + DeserializeOwned, S: Holds<T> + Serialize, T>(text: &str)
 
 fn again<A: Holds<T> + DeserializeOwned + Serialize, T>(text: &str) -> Option<String> {
     apart::<A, A, T>(text)
+}
+
+/// The same, with the values put into a set on the way.
+fn as_set<A: Holds<Vec<T>> + DeserializeOwned + Serialize, T: Ord>(text: &str) -> Option<String> {
+    let read: A = serde_json::from_str(text).ok()?;
+    let set: BTreeSet<T> = read.value().into_iter().collect();
+    serde_json::to_string(&A::of(set.into_iter().collect())).ok()
+}
+
+/// A map as the list of its entries.
+fn as_list<A: Holds<K> + Ord + DeserializeOwned + Serialize, B: Holds<V> + DeserializeOwned + Serialize, K: Ord, V>(
+    text: &str,
+) -> Option<String> {
+    let read: Vec<(A, B)> = serde_json::from_str(text).ok()?;
+    let map: BTreeMap<K, V> = read.value().into_iter().collect();
+    serde_json::to_string(&Vec::<(A, B)>::of(map.into_iter().collect())).ok()
+}
+
+/// As many entries as that.
+fn as_many<A: Holds<Vec<T>> + DeserializeOwned + Serialize, T>(count: usize, text: &str) -> Option<String> {
+    let read: A = serde_json::from_str(text).ok()?;
+    let values = read.value();
+    if values.len() != count {
+        return None;
+    }
+    serde_json::to_string(&A::of(values)).ok()
 }
 
 type One = PreferOne<Vec<Same<u8>>>;
@@ -164,6 +190,37 @@ pub fn answer(nest: &str, text: &str) -> Option<String> {
         "BTreeMap<Same, Same> of Option<(u32, u32)>" | "HashMap<Same, Same> of Option<(u32, u32)>" => {
             again::<AtMostOne<Same<u32>, Same<u32>>, Option<(u32, u32)>>(text)
         }
+        "Range<DisplayFromStr> of Range<u32>" => again::<Range<Shown<u32>>, Range<u32>>(text),
+        "RangeInclusive<DisplayFromStr> of RangeInclusive<u32>" => {
+            again::<RangeInclusive<Shown<u32>>, RangeInclusive<u32>>(text)
+        }
+        "RangeFrom<Same> of RangeFrom<u8>" => again::<From<Same<u8>>, RangeFrom<u8>>(text),
+        "RangeTo<Same> of RangeTo<u8>" => again::<To<Same<u8>>, RangeTo<u8>>(text),
+        "Map<Same, Same> of VecDeque<(u32, bool)>" | "Map<Same, Same> of Box<[(u32, bool)]>" => {
+            again::<Flags, Vec<(u32, bool)>>(text)
+        }
+        "Map<Same, DisplayFromStr> of LinkedList<(u32, u32)>" => {
+            again::<Pairs<Same<u32>, Shown<u32>>, Vec<(u32, u32)>>(text)
+        }
+        "Map<Same, Same> of [(u32, bool); 2]" => as_many::<Flags, (u32, bool)>(2, text),
+        "Map<Same, Same> of BTreeSet<(u32, bool)>" => as_set::<Flags, (u32, bool)>(text),
+        "Map<Same, DisplayFromStr> of HashSet<(u32, u32)>" => {
+            as_set::<Pairs<Same<u32>, Shown<u32>>, (u32, u32)>(text)
+        }
+        "Vec<(Same, DisplayFromStr)> of BTreeMap<u32, u32>" => as_list::<Same<u32>, Shown<u32>, u32, u32>(text),
+        "Vec<(DisplayFromStr, Same)> of HashMap<u32, bool>" => as_list::<Shown<u32>, Same<bool>, u32, bool>(text),
+        "Seq<(Vec<Same>, Same)> of BTreeMap<Vec<u8>, bool>" => {
+            as_list::<Vec<Same<u8>>, Same<bool>, Vec<u8>, bool>(text)
+        }
+        "Seq<(Same, Same)> of HashMap<u32, u32>" => as_list::<Same<u32>, Same<u32>, u32, u32>(text),
+        "OneOrMany<DisplayFromStr, PreferOne> of VecDeque<u32>" => again::<PreferOne<Shown<u32>>, Vec<u32>>(text),
+        "OneOrMany<DisplayFromStr, PreferMany> of LinkedList<u32>" => {
+            again::<PreferMany<Shown<u32>>, Vec<u32>>(text)
+        }
+        "OneOrMany<Same, PreferOne> of Box<[u32]>" => again::<PreferOne<Same<u32>>, Vec<u32>>(text),
+        "OneOrMany<DisplayFromStr, PreferOne> of BTreeSet<u32>" => as_set::<PreferOne<Shown<u32>>, u32>(text),
+        "OneOrMany<Same, PreferMany> of HashSet<u32>" => as_set::<PreferMany<Same<u32>>, u32>(text),
+        "OneOrMany<Vec<Same>, PreferMany> of BTreeSet<Vec<u8>>" => as_set::<PreferMany<Vec<Same<u8>>>, Vec<u8>>(text),
         _ => panic!("no nest {nest}"),
     }
 }

@@ -1,3 +1,5 @@
 mod containers;
+mod hashed;
 mod pairs;
 mod policy;
+mod wraps;

@@ -7,9 +7,12 @@ mod choices;
 mod containers;
 mod hashed;
 mod keys;
+mod many;
 mod maps;
 mod names;
+mod pairs;
 mod person;
+mod ranges;
 mod records;
 mod stored;
 mod told;
@@ -58,6 +61,19 @@ fn asked(alloc: Global, nest: &str, text: Option<&str>) -> Answer {
     } else if let Some(answer) = hashed::asked(alloc, nest, text) {
         answer
     } else if let Some(answer) = cases::asked(alloc, nest, text) {
+        answer
+    } else {
+        asked_further(alloc, nest, text)
+    }
+}
+
+/// The same of ranges, pairs and further collections of one or many.
+fn asked_further(alloc: Global, nest: &str, text: Option<&str>) -> Answer {
+    if let Some(answer) = ranges::asked(alloc, nest, text) {
+        answer
+    } else if let Some(answer) = pairs::asked(alloc, nest, text) {
+        answer
+    } else if let Some(answer) = many::asked(alloc, nest, text) {
         answer
     } else {
         Answer::NoSuchNest

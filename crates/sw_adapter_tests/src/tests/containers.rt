@@ -1,10 +1,10 @@
+use std::collections::{BTreeMap, HashMap, HashSet};
 use sw_core::adapter::DeserializeAs;
 use sw_core::display::DisplayFromStr;
 use sw_core::free::{
     are_copies_free, are_leaves_free, are_parsed_leaves_free, is_list_free, is_parsed_text_free,
 };
 use sw_core::same::Same;
-use std::collections::{BTreeMap, HashMap, HashSet};
 
 #[test]
 fn what_is_copied_takes_memory(rt: HostRuntime) {

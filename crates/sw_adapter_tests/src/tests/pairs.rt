@@ -1,5 +1,3 @@
-use sw_pairs::free::is_map_free;
-use sw_pairs::map::Map;
 use std::alloc::{AllocError, Global};
 use sw_check::blame::CheckFail;
 use sw_check::check;
@@ -8,6 +6,8 @@ use sw_core::adapter::{Adapter, DeserializeAs};
 use sw_core::as_::As;
 use sw_core::same::Same;
 use sw_elem::any::Any;
+use sw_pairs::free::is_map_free;
+use sw_pairs::map::Map;
 use sw_tree::fail::{SerError, SerFail};
 use sw_tree::mode::{Mode, WireKind};
 use sw_tree::node::Node;

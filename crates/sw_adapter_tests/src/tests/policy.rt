@@ -1,9 +1,9 @@
-use sw_policy::one_or_many::OneOrMany;
-use sw_policy::pick_first::PickFirst;
 use sw_core::adapter::DeserializeAs;
 use sw_core::display::DisplayFromStr;
 use sw_core::formats::PreferOne;
 use sw_core::same::Same;
+use sw_policy::one_or_many::OneOrMany;
+use sw_policy::pick_first::PickFirst;
 
 type Names = OneOrMany<Same, PreferOne>;
 
