@@ -89,7 +89,7 @@ module _ (r : Reads) (s : Spots) (k : Skips) (q : Reads) (z : Spots) (l : Skips)
   entries_read (node.bytes b) p c xs e = absurd (cc)
   entries_read (node.list ts) p c xs e = absurd (cc)
 
-twos-all_both : {A B : Type 0} (f : A → Meaning) (g : B → Meaning) (ps : List (A × B)) → twos (all_both f g ps) ≡ map (pair_meaning f g) ps
+pub twos-all_both : {A B : Type 0} (f : A → Meaning) (g : B → Meaning) (ps : List (A × B)) → twos (all_both f g ps) ≡ map (pair_meaning f g) ps
 twos-all_both f g [] = refl
 twos-all_both f g (p ∷ ps) = ap (λ vs. pair_meaning f g p ∷ vs) (twos-all_both f g ps)
 

@@ -28,7 +28,7 @@ module _ (key value : Reader Meaning) where
   first_by-row c p [] = refl
   first_by-row c p (e ∷ es) = refl
 
-count-row : (c : Bool) (p : ℕ) (es : List (Tree × Tree)) → length es ≡ length (entry_row c p es)
+pub count-row : (c : Bool) (p : ℕ) (es : List (Tree × Tree)) → length es ≡ length (entry_row c p es)
 count-row c p [] = refl
 count-row c p (e ∷ es) = rw (count-row c (behind c (behind c p e.0) e.1) es) refl
 

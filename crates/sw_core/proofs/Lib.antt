@@ -6,6 +6,7 @@ pub mod Tagging
 pub mod FirstEntry
 pub mod InTurn
 pub mod Filling
+pub mod EntryFilling
 pub mod Lent
 pub mod Hashing
 pub mod Ranged

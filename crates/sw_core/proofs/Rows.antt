@@ -8,7 +8,7 @@ use Rattle.sw_tree.specs.declared.fail.Refusal.{Refusal}
 use Rattle.sw_tree.specs.Logged.{HasGained, IsCut}
 use Rattle.sw_core.specs.Inner.Rows.{seen_reads, seen_logs, seen_turns, both, all_both}
 use Rattle.sw_core.specs.Rows.{Reader, each_by, turns_by}
-use Rattle.sw_tree.specs.Laws.Logs.{gained_none, gained_more, cut_here, cut_within}
+use Rattle.sw_tree.specs.Laws.Logs.{gained_none, gained_more, gained_all, cut_here, cut_within}
 
 -- what a whole row gives, where its first part gave ys
 abbrev pub prefixed : {B E : Type 0} → List B → Result (List B) E → Result (List B) E
@@ -16,7 +16,7 @@ prefixed ys (Ok zs) = Ok (ys ++ zs)
 prefixed ys (Err e) = Err e
 
 -- before anything is read
-prefixed-none : {B E : Type 0} (r : Result (List B) E) → r ≡ prefixed [] r
+pub prefixed-none : {B E : Type 0} (r : Result (List B) E) → r ≡ prefixed [] r
 prefixed-none (Ok ys) = refl
 prefixed-none (Err e) = refl
 
@@ -111,12 +111,24 @@ module _ {M : Type 0} (r q : Reader M) (xs : List (Seen × Seen)) (e : Seen × S
       let now : whole ≡ prefixed ys (seen_reads (rs ++ turns_by r q es) (ss ++ seen_turns es)) = rw first at h in
       now ∙ part_read rs (turns_by r q es) ss (seen_turns es) refl ys vs p ∙ ap (λ (l : List M). prefixed l after) (sym i)
 
+  -- the first entry that is refused decides
+  pub entry_refused : (whole : Result (List M) Refusal) (ys : List M) (d : Refusal) → whole ≡ prefixed ys (seen_reads (turns_by r q xs) (seen_turns xs)) → seen_reads rs ss ≡ Err d → whole ≡ Err d
+  entry_refused whole ys d h p =
+      let after = seen_reads (turns_by r q es) (seen_turns es) in
+      let now : whole ≡ prefixed ys (seen_reads (rs ++ turns_by r q es) (ss ++ seen_turns es)) = rw first at h in
+      now ∙ ap (prefixed ys) (reads-append rs (turns_by r q es) ss (seen_turns es) refl ∙ ap (λ x. bind x (λ ws. prefixed ws after)) p)
+
   module _ (old now new gains : List Refusal) (h : HasGained old now gains (seen_logs (turns_by r q xs) (seen_turns xs))) where
     split_on : HasGained old now gains (seen_logs (rs ++ turns_by r q es) (ss ++ seen_turns es))
     split_on = rw first at h
 
     pub entry_gained : (vs : List M) → seen_reads rs ss ≡ Ok vs → new ≡ now ++ seen_logs rs ss → HasGained old new gains (seen_logs (turns_by r q es) (seen_turns es))
     entry_gained vs p i = part_gained rs (turns_by r q es) ss (seen_turns es) refl old now new gains split_on vs p i
+
+    pub entry_refused_logs : (d : Refusal) → seen_reads rs ss ≡ Err d → new ≡ now ++ seen_logs rs ss → new ≡ old ++ gains
+    entry_refused_logs d p i =
+        let after = seen_logs (turns_by r q es) (seen_turns es) in
+        gained_all old new gains (gained_more old now new gains (seen_logs rs ss) [] (rw (logs-append rs (turns_by r q es) ss (seen_turns es) refl, p) at split_on) i)
 
     pub entry_cut : IsCut now new (seen_logs rs ss) → IsCut old new gains
     entry_cut c = part_cut rs (turns_by r q es) ss (seen_turns es) refl old now new gains split_on c

@@ -19,6 +19,8 @@ pub mod Record
 pub mod Range
 pub mod OptionalPair
 pub mod OrderedMap
+pub mod MapList
+pub mod EntryArray
 pub mod InOrder
 pub mod Set
 pub mod Display

@@ -12,6 +12,8 @@ pub mod Record
 pub mod Range
 pub mod OptionalPair
 pub mod OrderedMap
+pub mod MapList
+pub mod EntryArray
 pub mod Set
 pub mod Display
 pub mod Faithful

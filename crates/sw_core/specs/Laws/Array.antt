@@ -57,7 +57,7 @@ each_one H x h (suc n) = (h, each_one H x h n)
 
 -- ---- writing, and reading back
 
-list-of : (P : Meaning → Type 0) (n : ℕ) (v : Meaning) → IsArrayOf P n v → IsListOf P v
+pub list-of : (P : Meaning → Type 0) (n : ℕ) (v : Meaning) → IsArrayOf P n v → IsListOf P v
 list-of P n (list vs) h = h.0
 list-of P n _ h = absurd h
 

@@ -41,7 +41,7 @@ use Rattle.sw_core.specs.Laws.Within.{within_ok, within_shallow, within_key}
 
 -- ---- reading
 
-each_pair : (P Q : Meaning → Type 0) (r q : Reader Meaning) → ((t : Tree) (v : Meaning) → IsNodeTree t → r.reads t ≡ Ok v → P v) → ((t : Tree) (v : Meaning) → IsNodeTree t → q.reads t ≡ Ok v → Q v) →
+pub each_pair : (P Q : Meaning → Type 0) (r q : Reader Meaning) → ((t : Tree) (v : Meaning) → IsNodeTree t → r.reads t ≡ Ok v → P v) → ((t : Tree) (v : Meaning) → IsNodeTree t → q.reads t ≡ Ok v → Q v) →
     (es : List (Tree × Tree)) (vs : List Meaning) → Each IsNodeTree (by_turns es) → AreRead (turns_by r q es) (by_turns es) vs → Each (IsPairOf P Q) (twos vs)
 each_pair P Q r q keys values [] [] n h = tt
 each_pair P Q r q keys values [] (v ∷ vs) n h = absurd h

@@ -98,12 +98,12 @@ list_iterates {A} {X} shows = iterates shows (TakesFirst shows) (λ s. s) steps
     steps s (Some a) t g = g
 
 -- one whose state is the list of what is left, itself lent
-pub lent_iterates : {X : Type 0} (xs : List X) (s : List (Bor X)) → map deref s ≡ xs → Iterates deref (TakesFirst (λ (x : Bor X). x)) xs s
-lent_iterates {X} = iterates deref (TakesFirst (λ (x : Bor X). x)) (map deref) steps
+pub lent_iterates : {A X : Type 0} (shows : A → X) (xs : List X) (s : List A) → map shows s ≡ xs → Iterates shows (TakesFirst (λ (x : A). x)) xs s
+lent_iterates {A} {X} shows = iterates shows (TakesFirst (λ (x : A). x)) (map shows) steps
   where
-    steps : (s : List (Bor X)) (r : Option (Bor X)) (t : List (Bor X)) → TakesFirst (λ (x : Bor X). x) s r t → ShowsFirst deref (TakesFirst (λ (x : Bor X). x)) (map deref) s r t
-    steps s None t g = ap (map deref) g.0
-    steps s (Some a) t g = ap (map deref) g
+    steps : (s : List A) (r : Option A) (t : List A) → TakesFirst (λ (x : A). x) s r t → ShowsFirst shows (TakesFirst (λ (x : A). x)) (map shows) s r t
+    steps s None t g = ap (map shows) g.0
+    steps s (Some a) t g = ap (map shows) g
 
 module _ {S X : Type 0} (rest : S → List X) where
   -- one that leaves its state as it is where nothing is left, as those over slices and queues

@@ -103,7 +103,7 @@ module _ (P Q : Meaning → Type 0) (R : Order) (f : Meaning → Meaning) (withi
   ascends_normed [] h l = tt
   ascends_normed (v ∷ vs) h l = (below_normed v (pair_norm (λ x. x) f v) vs (first_kept v h.0) h.1 l.0, ascends_normed vs h.1 l.1)
 
-  pub map_normed : (vs : List Meaning) → Each (IsPairOf P Q) vs × Ascends (by_first R) vs → Each (IsPairOf P Q) (list_map (pair_norm (λ x. x) f) vs) × Ascends (by_first R) (list_map (pair_norm (λ x. x) f) vs)
+  map_normed : (vs : List Meaning) → Each (IsPairOf P Q) vs × Ascends (by_first R) vs → Each (IsPairOf P Q) (list_map (pair_norm (λ x. x) f) vs) × Ascends (by_first R) (list_map (pair_norm (λ x. x) f) vs)
   map_normed vs h = (each_normed (IsPairOf P Q) (pair_norm (λ x. x) f) normed-is vs h.0, ascends_normed vs h.0 h.1)
 
 module _ (P Q : Meaning → Type 0) (n g f : Meaning → Meaning) where
@@ -120,31 +120,38 @@ module _ (P Q : Meaning → Type 0) (f : Meaning → Meaning) where
   pair_exact values (list (meaning a (meaning b no_meanings))) h = ap (λ x. pair a x) (values b h.1)
   pair_exact values _ h = absurd h
 
+module _ (P Q : Meaning → Type 0) (R : Order) (i : Norm) where
+  pub map_norms : NormsWithin Q i → NormsWithin (IsMapOf P R Q) (ordered_map_norm i)
+  map_norms within m (list vs) h =
+      let g = pair_norm (λ x. x) (i (at_value m)) in
+      rw (parts-meanings (list_map g (parts vs))) (map_normed P Q R (i (at_value m)) (within (at_value m)) (parts vs) h)
+  map_norms within m _ h = absurd h
+
+  pub map_exact : (m : Mode) → IsExact Q i (at_value m) → IsExact (IsMapOf P R Q) (ordered_map_norm i) m
+  map_exact m values (list vs) h =
+      ap (λ us. list (meanings us)) (each_kept (pair_norm (λ x. x) (i (at_value m))) (IsPairOf P Q) (pair_exact P Q (i (at_value m)) values) (parts vs) h.0) ∙ ap list (meanings-parts vs)
+  map_exact m values _ h = absurd h
+
+module _ {P Q : Meaning → Type 0} (R : Order) (o : Ranks P R) (n d : Meaning → Meaning) where
+  -- keys that are exact are told apart as before
+  pub normed_in_order : ((v : Meaning) → P v → n v ≡ v) → ((v : Meaning) → Q v → Q (d v)) → (vs : List Meaning) → Each (IsPairOf P Q) vs × Ascends (by_first R) vs →
+      sorted (by_first R) value_replaced (list_map (pair_norm n d) vs) ≡ list_map (pair_norm (λ x. x) d) vs
+  normed_in_order keys within vs p =
+      let t = map_normed P Q R d within vs p in
+      ap (sorted (by_first R) value_replaced) (pairs_same P Q n (λ x. x) d keys vs p.0)
+      ∙ sorted-same (IsPairOf P Q) (by_first R) value_replaced (by_first-ranks P Q R o) (value_joins P Q R) (list_map (pair_norm (λ x. x) d) vs) t.0 t.1
+
 map_form : (e f : Form) → IsFormOf (map e f) (key_map e f)
 map_form e f = record { sound = key_map-map e f; written = λ m k p. p; read = λ m k p. p }
 
 module _ {P Q : Meaning → Type 0} (R : Order) (o : Ranks P R) {w x : Writes} {r q : Reads} {s z : Spots} {k l : Skips} {e f : Form} {n i : Norm} {a b : Type 0} (keys : Lawful P w r s k e n a) (values : Lawful Q x q z l f i b) where
-  norms : NormsWithin (IsMapOf P R Q) (ordered_map_norm i)
-  norms m (list vs) h =
-      let g = pair_norm (λ x. x) (i (at_value m)) in
-      rw (parts-meanings (list_map g (parts vs))) (map_normed P Q R (i (at_value m)) (values.norms (at_value m)) (parts vs) h)
-  norms m _ h = absurd h
-
-  exact : (m : Mode) → grade (key_map e f) m ≡ Exact → IsExact (IsMapOf P R Q) (ordered_map_norm i) m
-  exact m g (list vs) h =
-      ap (λ us. list (meanings us)) (each_kept (pair_norm (λ x. x) (i (at_value m))) (IsPairOf P Q) (pair_exact P Q (i (at_value m)) (values.exact (at_value m) g)) (parts vs) h.0) ∙ ap list (meanings-parts vs)
-  exact m g _ h = absurd h
-
-  -- keys that are exact are told apart as before
   same : (m : Mode) → IsSound (key_map e f) m → (v : Meaning) → IsMapOf P R Q v → in_order (by_first R) value_replaced (entries_norm n i m v) ≡ ordered_map_norm i m v
   same m h (list vs) p =
-      let d = i (at_value m) in
-      let us = list_map (pair_norm (λ x. x) d) (parts vs) in
       let c = sound-key_map e f m h in
-      let t = map_normed P Q R d (values.norms (at_value m)) (parts vs) p in
-      ap (λ ps. list (meanings (sorted (by_first R) value_replaced ps))) (parts-meanings (list_map (pair_norm (n (at_key m)) d) (parts vs)) ∙ pairs_same P Q (n (at_key m)) (λ x. x) d (keys.exact (at_key m) (exact_is (grade e (at_key m)) c.1)) (parts vs) p.0)
-      ∙ ap (λ ps. list (meanings ps)) (sorted-same (IsPairOf P Q) (by_first R) value_replaced (by_first-ranks P Q R o) (value_joins P Q R) us t.0 t.1)
+      ap (λ ps. list (meanings (sorted (by_first R) value_replaced ps))) (parts-meanings (list_map (pair_norm (n (at_key m)) (i (at_value m))) (parts vs)))
+      ∙ ap (λ ps. list (meanings ps)) (normed_in_order R o (n (at_key m)) (i (at_value m)) (keys.exact (at_key m) (exact_is (grade e (at_key m)) c.1)) (values.norms (at_value m)) (parts vs) p)
   same m h _ p = absurd p
 
   pub ordered_map_keeps : Lawful (IsMapOf P R Q) (entries_writes w x) (ordered_map_reads R r s k q z l) (entries_spot r s k q z l) (entries_skips r s k q z l) (key_map e f) (ordered_map_norm i) (a × b)
-  ordered_map_keeps = ordered_keeps (entries_keeps keys values) (by_first R) value_replaced (key_map e f) (ordered_map_norm i) (map_form e f) same exact norms
+  ordered_map_keeps =
+      ordered_keeps (entries_keeps keys values) (by_first R) value_replaced (key_map e f) (ordered_map_norm i) (map_form e f) same (λ m g. map_exact P Q R i m (values.exact (at_value m) g)) (map_norms P Q R i values.norms)

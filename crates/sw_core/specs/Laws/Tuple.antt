@@ -42,11 +42,11 @@ use Rattle.sw_core.specs.Laws.Within.{within_ok, within_shallow, within_key}
 
 -- ---- reading
 
-was_made : (b : Bool) (found : ℕ) (vs : List Meaning) (v : Meaning) → cond b (Ok (row vs)) (Err (fail.InvalidLength found)) ≡ Ok v → (b ≡ true) × (row vs ≡ v)
+pub was_made : (b : Bool) (found : ℕ) (vs : List Meaning) (v : Meaning) → cond b (Ok (row vs)) (Err (fail.InvalidLength found)) ≡ Ok v → (b ≡ true) × (row vs ≡ v)
 was_made true found vs v p = (refl, cc)
 was_made false found vs v p = absurd (cc)
 
-own_length : (b : Bool) (found : ℕ) (vs : List Meaning) (t : Tree) (e : DeError) → cond b (Ok (row vs)) (Err (fail.InvalidLength found)) ≡ Err e → IsOwn t e
+pub own_length : (b : Bool) (found : ℕ) (vs : List Meaning) (t : Tree) (e : DeError) → cond b (Ok (row vs)) (Err (fail.InvalidLength found)) ≡ Err e → IsOwn t e
 own_length true found vs t e p = absurd (cc)
 own_length false found vs t e p = λ j i. absurd (cc)
 

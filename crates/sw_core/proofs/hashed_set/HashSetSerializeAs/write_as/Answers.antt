@@ -7,4 +7,4 @@ use Rattle.sw_core.proofs.hashed_set.HashSetSerializeAs.write_as.Goals as goal
 pub returns : goal.returns
 returns g c =
     c.write_list.ensures (sort_keys_onto g.T.Ord.cmp [] c.args.source.now.keys)
-    (lent_iterates (sort_keys_onto g.T.Ord.cmp [] c.args.source.now.keys) c.into_iter.result (ap (map deref) (search rules) ∙ c.in_ok-sorted.ensures))
+    (lent_iterates deref (sort_keys_onto g.T.Ord.cmp [] c.args.source.now.keys) c.into_iter.result (ap (map deref) (search rules) ∙ c.in_ok-sorted.ensures))
