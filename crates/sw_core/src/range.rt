@@ -1,3 +1,4 @@
+//! A range is a map of its bounds, each by the same adapter in value place. It is read of the list of them too.
 #![tactic(auto, using(sw_tree::specs::Laws::Logs::gains))]
 
 ghost use Rattle.std.specs.Prelude.{[], ◌∷◌};

@@ -14,4 +14,4 @@ returns-else-eq-clause-answer g c =
     let fs = bounds (g.N.BoundName.name ∷ []) (reading g.A.DeserializeAs.reads g.A.DeserializeAs.spot g.A.DeserializeAs.skips) in
     let f = λ (one : record { 0 : g.row.T.Denot }). row (g.T.Named.meaning one.0 ∷ []) in
     let other : kind_of (seen c.args.view).tree ≡ kind.List → ⊥ = λ e. let same : c.eq.result ≡ true = rw (c.kind.ensures.value ∙ e) at c.eq.ensures in cc (same, c.if-eq.false) in
-    subst (IsRead f c.read_record.result) (sym ((of_record fs c.args.mode (seen c.args.view) other).0)) c.read_record.ensures.answer
+    subst (IsRead f c.read_record.result) (sym (of_record fs c.args.mode (seen c.args.view) other)) c.read_record.ensures.answer
