@@ -1,4 +1,5 @@
 use std::alloc::{AllocError, Global};
+use std::collections::{BTreeMap, HashMap};
 use sw_check::blame::CheckFail;
 use sw_check::check;
 use sw_check::grade::Grade;
@@ -6,8 +7,9 @@ use sw_core::adapter::{Adapter, DeserializeAs};
 use sw_core::as_::As;
 use sw_core::same::Same;
 use sw_elem::any::Any;
-use sw_pairs::free::is_map_free;
+use sw_pairs::free::{is_map_free, is_seq_free};
 use sw_pairs::map::Map;
+use sw_pairs::seq::Seq;
 use sw_tree::fail::{SerError, SerFail};
 use sw_tree::mode::{Mode, WireKind};
 use sw_tree::node::Node;
@@ -67,4 +69,13 @@ fn a_list_is_a_key_of_the_compact_wire(rt: HostRuntime) {
 fn a_map_takes_memory(rt: HostRuntime) {
     assert!(rt; !is_map_free::<u8, u8, Same, Same>());
     assert!(rt; !<Flags as DeserializeAs<Vec<(u32, bool)>>>::FREE);
+    assert!(rt; !<Flags as DeserializeAs<[(u32, bool); 2]>>::FREE);
+}
+
+#[test]
+fn a_map_as_a_list_takes_memory(rt: HostRuntime) {
+    assert!(rt; !is_seq_free::<u8, u8, Same, Same>());
+    assert!(rt; !<Vec<(Same, Same)> as DeserializeAs<BTreeMap<u32, bool>>>::FREE);
+    assert!(rt; !<Vec<(Same, Same)> as DeserializeAs<HashMap<u32, bool>>>::FREE);
+    assert!(rt; !<Seq<(Same, Same)> as DeserializeAs<HashMap<u32, bool>>>::FREE);
 }
