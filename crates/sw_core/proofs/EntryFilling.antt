@@ -1,7 +1,7 @@
 -- An array of pairs that is filled from entries in turn: what is left to be read, how it ends, and the map whose entries they are.
-use Rattle.std.proofs.Common.{◌≡◌, ◌<◌, ◌+◌, ℕ, zero, suc, Bool, true, false, List, [], ◌∷◌, ◌++◌, length, take, set, cond, is_ok, ◌==◌, Some, Result, Ok, Err, refl, ap, sym, ◌∙◌, subst, append-nil, zero-add, arith, eq-eqb, eqb-true}
+use Rattle.std.proofs.Common.{◌≡◌, ◌<◌, ◌+◌, ℕ, zero, suc, Bool, true, false, List, [], ◌∷◌, ◌++◌, length, take, set, cond, ◌==◌, Some, Result, Ok, Err, refl, ap, sym, ◌∙◌, subst, append-nil, zero-add, arith, eq-eqb, eqb-true}
 use Rattle.std.proofs.lemmas.List.{take_more_set, take_all, length-set}
-use Rattle.sw_tree.specs.Laws.Logs.{gained_none, gained_more, gained_all}
+use Rattle.sw_tree.specs.Laws.Logs.{gained_none, gained_all}
 use Rattle.sw_tree.specs.Logged.{HasGained, IsCut}
 use Rattle.sw_tree.specs.Meaning.{Meaning, list, meanings}
 use Rattle.sw_tree.specs.Meant.{list_meaning, pair_meaning}

@@ -1,6 +1,6 @@
 use std::alloc::{AllocError, Global};
 use std::boxed::BoxedSlice;
-use std::collections::{BTreeSet, HashSet, LinkedList, VecDeque};
+use std::collections::{BTreeMap, BTreeSet, HashMap, HashSet, LinkedList, VecDeque};
 use sw_check::blame::CheckFail;
 use sw_check::check;
 use sw_check::grade::Grade;
@@ -8,8 +8,9 @@ use sw_core::adapter::{Adapter, DeserializeAs};
 use sw_core::as_::As;
 use sw_core::same::Same;
 use sw_elem::any::Any;
-use sw_pairs::free::is_map_free;
+use sw_pairs::free::{is_map_free, is_seq_free};
 use sw_pairs::map::Map;
+use sw_pairs::seq::Seq;
 use sw_tree::doc::Doc;
 use sw_tree::fail::{DeFail, SerError, SerFail};
 use sw_tree::mode::{Mode, WireKind};
@@ -76,6 +77,7 @@ fn a_map_takes_memory(rt: HostRuntime) {
     assert!(rt; !<Flags as DeserializeAs<BoxedSlice<(u32, bool)>>>::FREE);
     assert!(rt; !<Flags as DeserializeAs<BTreeSet<(u32, bool)>>>::FREE);
     assert!(rt; !<Flags as DeserializeAs<HashSet<(u32, bool)>>>::FREE);
+    assert!(rt; !<Flags as DeserializeAs<[(u32, bool); 2]>>::FREE);
 }
 
 /// The entries of the map that is written for an optional pair.
@@ -98,4 +100,12 @@ fn an_optional_pair_is_a_map_of_one_entry_or_none(rt: HostRuntime) {
         Ok(pairs) => assert!(rt; pairs.is_empty()),
         Err(_) => assert!(rt; false),
     }
+}
+
+#[test]
+fn a_map_as_a_list_takes_memory(rt: HostRuntime) {
+    assert!(rt; !is_seq_free::<u8, u8, Same, Same>());
+    assert!(rt; !<Vec<(Same, Same)> as DeserializeAs<BTreeMap<u32, bool>>>::FREE);
+    assert!(rt; !<Vec<(Same, Same)> as DeserializeAs<HashMap<u32, bool>>>::FREE);
+    assert!(rt; !<Seq<(Same, Same)> as DeserializeAs<HashMap<u32, bool>>>::FREE);
 }

@@ -12,7 +12,7 @@ use Rattle.sw_tree.specs.Meant.{IsArrayOf, IsListOf, IsPairOf}
 use Rattle.sw_tree.specs.Mode.{at_key, at_value}
 use Rattle.sw_tree.specs.Nodes.{IsNoteIn}
 use Rattle.sw_tree.specs.Proper.{IsNodeTree}
-use Rattle.sw_tree.specs.Steps.{bind, Each}
+use Rattle.sw_tree.specs.Steps.{Each}
 use Rattle.sw_tree.specs.Tree.{Tree, pairs, by_turns, kind_of}
 use Rattle.sw_tree.specs.Tree as node
 use Rattle.sw_tree.specs.declared.mode.Kind.TheVariants as kind
@@ -26,7 +26,6 @@ use Rattle.sw_core.specs.Entries.{entries_writes, entries_reads, entries_spot, e
 use Rattle.sw_core.specs.EntryArray.{entry_array_plan, entry_array_reads, entry_array_spot, entry_array_skips}
 use Rattle.sw_core.specs.Plans.{children}
 use Rattle.sw_core.specs.Rows.{Reader, reader, turns_by, row_reads}
-use Rattle.sw_core.specs.Tuple.{tuple_made}
 use Rattle.sw_core.specs.Laws.Array.{list-of}
 use Rattle.sw_core.specs.Laws.Entries.{each_pair, entries_keeps}
 use Rattle.sw_core.specs.Laws.Plans.{RefusesItself, plan_lawful, plan_spot_kinds, plan_note_kinds}
