@@ -8,4 +8,4 @@ use Rattle.sw_pairs.proofs.sets.MapSerializeAsHashSetTuple2.write_as.Goals as go
 pub returns : goal.returns
 returns g c =
     let sorted = sort_keys_onto (pair_cmp g.T.Ord.cmp g.U.Ord.cmp) [] c.args.source.now.keys in
-    c.write_pairs.ensures sorted (lent_iterates sorted c.into_iter.result (ap (map deref) (search rules) ∙ c.in_ok-sorted.ensures))
+    c.write_pairs.ensures sorted (lent_iterates deref sorted c.into_iter.result (ap (map deref) (search rules) ∙ c.in_ok-sorted.ensures))
