@@ -10,6 +10,7 @@ mod keys;
 mod maps;
 mod names;
 mod person;
+mod priority;
 mod records;
 mod stored;
 mod told;
