@@ -3,6 +3,7 @@
 use crate::adapters::{Aside, AtMostOne, Choice, Holds, Pairs, PreferMany, PreferOne, Same, Shown};
 use serde::{de::DeserializeOwned, Serialize};
 use serde_json::Value;
+use std::cmp::Reverse;
 use std::collections::{BTreeMap, BTreeSet, LinkedList, VecDeque};
 use std::num::NonZeroU8;
 use std::ops::Bound;
@@ -46,6 +47,9 @@ impl Holds<Person> for Person {
         self
     }
 }
+
+/// A key of a user's own, of which the greater comes first.
+type Priority = Reverse<u8>;
 
 pub fn answer(nest: &str, text: &str) -> Option<String> {
     match nest {
@@ -164,6 +168,11 @@ pub fn answer(nest: &str, text: &str) -> Option<String> {
         "BTreeMap<Same, Same> of Option<(u32, u32)>" | "HashMap<Same, Same> of Option<(u32, u32)>" => {
             again::<AtMostOne<Same<u32>, Same<u32>>, Option<(u32, u32)>>(text)
         }
+        "Same of Priority" => again::<Same<Priority>, Priority>(text),
+        "BTreeMap<Same, Same> of BTreeMap<Priority, u32>" => {
+            again::<BTreeMap<Same<Priority>, Same<u32>>, BTreeMap<Priority, u32>>(text)
+        }
+        "BTreeSet<Same> of BTreeSet<Priority>" => again::<BTreeSet<Same<Priority>>, BTreeSet<Priority>>(text),
         _ => panic!("no nest {nest}"),
     }
 }

@@ -10,6 +10,7 @@ mod keys;
 mod maps;
 mod names;
 mod person;
+mod priorities;
 mod priority;
 mod records;
 mod stored;
@@ -59,6 +60,8 @@ fn asked(alloc: Global, nest: &str, text: Option<&str>) -> Answer {
     } else if let Some(answer) = hashed::asked(alloc, nest, text) {
         answer
     } else if let Some(answer) = cases::asked(alloc, nest, text) {
+        answer
+    } else if let Some(answer) = priorities::asked(alloc, nest, text) {
         answer
     } else {
         Answer::NoSuchNest
