@@ -3,6 +3,7 @@
 use crate::adapters::{Aside, AtMostOne, Choice, From, Holds, Pairs, PreferMany, PreferOne, Same, Shown, To};
 use serde::{de::DeserializeOwned, Serialize};
 use serde_json::Value;
+use std::cmp::Reverse;
 use std::collections::{BTreeMap, BTreeSet, LinkedList, VecDeque};
 use std::num::NonZeroU8;
 use std::ops::{Bound, Range, RangeFrom, RangeInclusive, RangeTo};
@@ -72,6 +73,9 @@ impl Holds<Person> for Person {
         self
     }
 }
+
+/// A key of a user's own, of which the greater comes first.
+type Priority = Reverse<u8>;
 
 pub fn answer(nest: &str, text: &str) -> Option<String> {
     match nest {
@@ -221,6 +225,11 @@ pub fn answer(nest: &str, text: &str) -> Option<String> {
         "OneOrMany<DisplayFromStr, PreferOne> of BTreeSet<u32>" => as_set::<PreferOne<Shown<u32>>, u32>(text),
         "OneOrMany<Same, PreferMany> of HashSet<u32>" => as_set::<PreferMany<Same<u32>>, u32>(text),
         "OneOrMany<Vec<Same>, PreferMany> of BTreeSet<Vec<u8>>" => as_set::<PreferMany<Vec<Same<u8>>>, Vec<u8>>(text),
+        "Same of Priority" => again::<Same<Priority>, Priority>(text),
+        "BTreeMap<Same, Same> of BTreeMap<Priority, u32>" => {
+            again::<BTreeMap<Same<Priority>, Same<u32>>, BTreeMap<Priority, u32>>(text)
+        }
+        "BTreeSet<Same> of BTreeSet<Priority>" => again::<BTreeSet<Same<Priority>>, BTreeSet<Priority>>(text),
         _ => panic!("no nest {nest}"),
     }
 }

@@ -1,1 +1,3 @@
 pub mod Person
+pub mod Priority
+pub mod Laws

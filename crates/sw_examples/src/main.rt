@@ -12,6 +12,8 @@ mod maps;
 mod names;
 mod pairs;
 mod person;
+mod priorities;
+mod priority;
 mod ranges;
 mod records;
 mod stored;
@@ -61,6 +63,8 @@ fn asked(alloc: Global, nest: &str, text: Option<&str>) -> Answer {
     } else if let Some(answer) = hashed::asked(alloc, nest, text) {
         answer
     } else if let Some(answer) = cases::asked(alloc, nest, text) {
+        answer
+    } else if let Some(answer) = priorities::asked(alloc, nest, text) {
         answer
     } else {
         asked_further(alloc, nest, text)

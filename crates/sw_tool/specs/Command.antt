@@ -2,7 +2,7 @@
 use Rattle.std.specs.Prelude.{ℕ, List, [], ◌∷◌, Option, Some, None, option_map, codes, if◌then◌else◌}
 use Rattle.std.specs.Str.{bytes_eq}
 use Rattle.sw_tool.specs.declared.command.Profile.{Profile}
-use Rattle.sw_tool.specs.declared.command.Profile.TheVariants.{Ids, Any, Table, Flex, Names, Lists, Keys, Wrap}
+use Rattle.sw_tool.specs.declared.command.Profile.TheVariants.{Ids, Any, Table, Flex, Names, Lists, Keys, Wrap, Settings}
 use Rattle.sw_tool.specs.declared.command.Command.{Command}
 use Rattle.sw_tool.specs.declared.command.Command.TheVariants.{Recode, Check}
 
@@ -14,7 +14,8 @@ first_named word (n ∷ ns) = if bytes_eq word n.0 then Some n.1 else first_name
 abbrev pub profile_named : List ℕ → Option Profile
 profile_named word =
     first_named word
-    ((codes "ids", Ids) ∷ (codes "any", Any) ∷ (codes "table", Table) ∷ (codes "flex", Flex) ∷ (codes "names", Names) ∷ (codes "lists", Lists) ∷ (codes "keys", Keys) ∷ (codes "wrap", Wrap) ∷ [])
+    ((codes "ids", Ids) ∷ (codes "any", Any) ∷ (codes "table", Table) ∷ (codes "flex", Flex) ∷ (codes "names", Names) ∷ (codes "lists", Lists) ∷ (codes "keys", Keys) ∷ (codes "wrap", Wrap) ∷
+    (codes "settings", Settings) ∷ [])
 
 -- the command that a verb and its argument are
 abbrev pub command_of_two : List ℕ → List ℕ → Option Command

@@ -3,15 +3,16 @@ use Rattle.std.specs.Prelude.{ℕ, ◌^◌, true, false, List, [], ◌∷◌, Op
 use Rattle.sw_tree.specs.Meaning.{Meaning}
 use Rattle.sw_tree.specs.declared.fail.Refusal.{Refusal}
 use Rattle.sw_tree.specs.declared.mode.WireKind.TheVariants.{Json}
-use Rattle.sw_elem.specs.Decimal.{decimal_shows, unsigned_parses, signed_parses}
+use Rattle.sw_elem.specs.Decimal.{decimal_shows, signed_parses}
 use Rattle.sw_tree.specs.Mode.{plain}
-use Rattle.sw_check.specs.Form.{Form, leaf, vec, map, pick_first, one_or_many, form, no_forms}
+use Rattle.sw_check.specs.Form.{Form, leaf, vec, map, key_map, pick_first, one_or_many, option, tuple, fields, form, forms, no_forms}
 use Rattle.sw_check.specs.Blame.{blame}
 use Rattle.sw_check.specs.Grade.{grade}
 use Rattle.sw_check.specs.declared.blame.Blame.{Blame}
 use Rattle.sw_check.specs.declared.grade.Grade.{Grade}
+use Rattle.sw_check.specs.declared.grade.Grade.TheVariants.{Exact}
 use Rattle.sw_elem.specs.Facts.{number_facts, truth_facts, text_facts, any_facts}
-use Rattle.sw_elem.specs.Numbers.{number_writes, number_reads, is_below}
+use Rattle.sw_elem.specs.Numbers.{number_writes}
 use Rattle.sw_elem.specs.Strings.{text_writes, text_reads}
 use Rattle.sw_elem.specs.Truths.{truth_writes, truth_reads}
 use Rattle.sw_elem.specs.Foreign.{any_reads, any_spot, any_writes}
@@ -19,6 +20,7 @@ use Rattle.sw_elem.specs.Equations.{Writes, Reads, Spots, Skips, own_spot, no_sk
 use Rattle.sw_core.specs.Display.{display_writes, display_reads}
 use Rattle.sw_core.specs.Entries.{entries_writes, entries_reads, entries_spot, entries_skips}
 use Rattle.sw_core.specs.Recoding.{answer, skipped}
+use Rattle.sw_core.specs.Record.{record_reads, record_spot, record_skips, record_writes}
 use Rattle.sw_core.specs.Vec.{list_writes, list_reads, list_spot, list_skips}
 use Rattle.sw_core.specs.declared.recode.RecodeError.{RecodeError}
 use Rattle.sw_policy.specs.Options.{Reader, reader}
@@ -26,8 +28,10 @@ use Rattle.sw_policy.specs.PickFirst.{pick_reads, pick_skips}
 use Rattle.sw_policy.specs.OneOrMany.{one_or_many_writes, one_or_many_reads, one_or_many_skips}
 use Rattle.sw_json.specs.Spelled.{spelled}
 use Rattle.sw_json.specs.Text.{image_text}
+use Rattle.sw_tool.specs.Numbers.{below, id_reads, flex_options}
+use Rattle.sw_tool.specs.Settings.{settings_names, settings_fields, settings_writes}
 use Rattle.sw_tool.specs.declared.command.Profile.{Profile}
-use Rattle.sw_tool.specs.declared.command.Profile.TheVariants.{Ids, Any, Table, Flex, Names, Lists, Keys, Wrap}
+use Rattle.sw_tool.specs.declared.command.Profile.TheVariants.{Ids, Any, Table, Flex, Names, Lists, Keys, Wrap, Settings}
 
 -- a value and its new text, or the first error on the way
 abbrev pub Answer : Type 0
@@ -52,21 +56,9 @@ pub record Nest : Type 0 where
 abbrev nest : Reads → Spots → Skips → Writes → Form → Nest
 nest reads spot skips writes expr = record { reads = reads; spot = spot; skips = skips; writes = writes; expr = expr }
 
--- a text that spells a number below 2^32
-abbrev id_reads : Reads
-id_reads = display_reads (unsigned_parses (2 ^ 32))
-
 -- a text that spells a number from -2^31 to 2^31 - 1
 abbrev key_reads : Reads
 key_reads = display_reads (signed_parses (2 ^ 31))
-
--- a number below that limit
-abbrev below : ℕ → Reads
-below limit = number_reads (is_below limit)
-
--- a number below 2^32, or a text that spells it
-abbrev flex_options : List Reader
-flex_options = reader (below (2 ^ 32)) no_skips ∷ reader id_reads no_skips ∷ []
 
 -- a number below 2^32 that was set aside
 abbrev aside_options : List Reader
@@ -121,6 +113,9 @@ nest_of Keys =
 nest_of Wrap =
     nest (one_or_many_reads texts_reads texts_spot texts_skips) own_spot (one_or_many_skips texts_reads texts_spot texts_skips) (one_or_many_writes false (entries_writes text_writes any_writes))
     (one_or_many (map text (leaf any_facts)))
+nest_of Settings =
+    let parts = text ∷ one_or_many (pick_first number (form text no_forms)) ∷ option (tuple (forms (number ∷ number ∷ []))) ∷ key_map text text ∷ [] in
+    nest (record_reads false settings_fields) (record_spot false settings_fields) (record_skips false settings_fields) (record_writes settings_names settings_writes) (fields (forms parts) false Exact)
 
 -- what is blamed in the nest, where a JSON text is recoded
 unfoldable pub blame_of : Profile → Option Blame

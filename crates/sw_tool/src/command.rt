@@ -21,6 +21,8 @@ pub enum Profile {
     Keys,
     /// `OneOrMany<Map<Same, Same>, PreferMany>` of `Vec<Vec<(String, Any)>>`: a map, or a list of maps.
     Wrap,
+    /// `SettingsAs` of `Settings`: a record of a name, ids, limits and labels.
+    Settings,
 }
 
 /// What the program is to do.
@@ -45,6 +47,7 @@ fn profile_of(word: &str) -> Option<Profile>
         "lists" => Some(Profile::Lists),
         "keys" => Some(Profile::Keys),
         "wrap" => Some(Profile::Wrap),
+        "settings" => Some(Profile::Settings),
         _ => None,
     }
 }

@@ -15,6 +15,7 @@ mod path;
 mod profile;
 mod report;
 mod run;
+mod settings;
 mod sink;
 mod source;
 mod standard;

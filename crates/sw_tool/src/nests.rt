@@ -1,6 +1,7 @@
 //! The nests that the program knows, each with the type of its values.
 
 use crate::nest::Nest;
+use crate::settings::{Settings, SettingsAs};
 use std::marker::PhantomData;
 use sw_core::display::DisplayFromStr;
 use sw_core::formats::{PreferMany, PreferOne};
@@ -80,4 +81,13 @@ impl Nest for OneOrManyMaps {
     type Value = Vec<Vec<(String, Any)>>;
 
     type Adapter = OneOrMany<Map<Same, Same>, PreferMany>;
+}
+
+/// A record of settings.
+pub(crate) struct Recorded;
+
+impl Nest for Recorded {
+    type Value = Settings;
+
+    type Adapter = SettingsAs;
 }

@@ -16,7 +16,7 @@ use crate::names::grade_name;
 use crate::nest::{Nest, convert, vet};
 use crate::nests::{
     AsItStands, AsideKeys, ByteTable, Flexible, NumberTexts, OneOrManyLists, OneOrManyMaps,
-    OneOrManyTexts,
+    OneOrManyTexts, Recorded,
 };
 use crate::outcome::Outcome;
 use crate::output::write_line;
@@ -48,6 +48,7 @@ pub(crate) fn recode<S: Source, K: Sink>(
         Profile::Lists => recode_by::<OneOrManyLists, S, K>(alloc, source, sink),
         Profile::Keys => recode_by::<AsideKeys, S, K>(alloc, source, sink),
         Profile::Wrap => recode_by::<OneOrManyMaps, S, K>(alloc, source, sink),
+        Profile::Settings => recode_by::<Recorded, S, K>(alloc, source, sink),
     }
 }
 
@@ -66,6 +67,7 @@ pub(crate) fn check<K: Sink>(alloc: Global, profile: Profile, sink: &mut K) -> O
         Profile::Lists => check_by::<OneOrManyLists, K>(alloc, sink),
         Profile::Keys => check_by::<AsideKeys, K>(alloc, sink),
         Profile::Wrap => check_by::<OneOrManyMaps, K>(alloc, sink),
+        Profile::Settings => check_by::<Recorded, K>(alloc, sink),
     }
 }
 

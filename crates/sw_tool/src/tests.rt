@@ -187,6 +187,42 @@ fn each_nest_has_its_outcomes(rt: HostRuntime) -> Result<(), AllocError> {
     Ok(())
 }
 
+#[test]
+fn settings_are_read_by_name(rt: HostRuntime) -> Result<(), AllocError> {
+    let alloc = rt.alloc();
+    for (input, status, output, line) in [
+        (
+            "{\"name\":\"web\",\"ids\":[1,\"2\"],\"limits\":[10,20],\"labels\":{\"b\":\"2\",\"a\":\"1\"},\"extra\":null}",
+            Status::Ok,
+            "{\"name\":\"web\",\"ids\":[1,2],\"limits\":[10,20],\"labels\":{\"a\":\"1\",\"b\":\"2\"}}\n",
+            "",
+        ),
+        (
+            "{\"name\":\"x\",\"ids\":7,\"labels\":{}}",
+            Status::Ok,
+            "{\"name\":\"x\",\"ids\":7,\"limits\":null,\"labels\":{}}\n",
+            "",
+        ),
+        (
+            "{\"ids\":7}",
+            Status::Refused,
+            "",
+            "refused MissingField at /\n",
+        ),
+        (
+            "{\"name\":\"x\",\"name\":\"y\"}",
+            Status::Refused,
+            "",
+            "refused DuplicateField at /1k\n",
+        ),
+    ] {
+        let from = source(alloc, input.as_bytes(), &[], 7)?;
+        let to = sink(alloc, 128, &[])?;
+        check(&rt, "recode", "settings", from, to, status, output, line)?;
+    }
+    Ok(())
+}
+
 /// So many maps in one another, each but the innermost with the one name `a`.
 fn nested_maps(alloc: Global, levels: usize) -> Result<Vec<u8>, AllocError> {
     let mut text = Vec::new(alloc);
@@ -306,6 +342,7 @@ fn the_check_comes_before_the_input(rt: HostRuntime) -> Result<(), AllocError> {
         ("check", "flex", Status::Ok, "exact\n", ""),
         ("check", "names", Status::Ok, "exact\n", ""),
         ("check", "wrap", Status::Ok, "exact\n", ""),
+        ("check", "settings", Status::Ok, "exact\n", ""),
         ("check", "lists", Status::Blamed, "", "blamed S3 at /\n"),
         ("check", "keys", Status::Blamed, "", "blamed S1 at /0/0\n"),
         ("recode", "lists", Status::Blamed, "", "blamed S3 at /\n"),
