@@ -3,7 +3,6 @@ pub mod Change
 pub mod Memory
 pub mod Input
 pub mod Output
-pub mod Numbers
 pub mod Settings
 pub mod Command
 pub mod Names

@@ -1,9 +1,10 @@
 -- The nests of the profiles, as equations, and what they answer of a JSON text and pass over in it.
 use Rattle.std.specs.Prelude.{ℕ, ◌^◌, true, false, List, [], ◌∷◌, Option, Result}
+use Rattle.sw_tree.specs.LeafRanks.{text_order}
 use Rattle.sw_tree.specs.Meaning.{Meaning}
 use Rattle.sw_tree.specs.declared.fail.Refusal.{Refusal}
 use Rattle.sw_tree.specs.declared.mode.WireKind.TheVariants.{Json}
-use Rattle.sw_elem.specs.Decimal.{decimal_shows, signed_parses}
+use Rattle.sw_elem.specs.Decimal.{decimal_shows, unsigned_parses, signed_parses}
 use Rattle.sw_tree.specs.Mode.{plain}
 use Rattle.sw_check.specs.Form.{Form, leaf, vec, map, key_map, pick_first, one_or_many, option, tuple, fields, form, forms, no_forms}
 use Rattle.sw_check.specs.Blame.{blame}
@@ -12,15 +13,20 @@ use Rattle.sw_check.specs.declared.blame.Blame.{Blame}
 use Rattle.sw_check.specs.declared.grade.Grade.{Grade}
 use Rattle.sw_check.specs.declared.grade.Grade.TheVariants.{Exact}
 use Rattle.sw_elem.specs.Facts.{number_facts, truth_facts, text_facts, any_facts}
-use Rattle.sw_elem.specs.Numbers.{number_writes}
+use Rattle.sw_elem.specs.Numbers.{number_writes, number_reads, is_below}
 use Rattle.sw_elem.specs.Strings.{text_writes, text_reads}
 use Rattle.sw_elem.specs.Truths.{truth_writes, truth_reads}
 use Rattle.sw_elem.specs.Foreign.{any_reads, any_spot, any_writes}
 use Rattle.sw_elem.specs.Equations.{Writes, Reads, Spots, Skips, own_spot, no_skips}
 use Rattle.sw_core.specs.Display.{display_writes, display_reads}
 use Rattle.sw_core.specs.Entries.{entries_writes, entries_reads, entries_spot, entries_skips}
+use Rattle.sw_core.specs.Fields.{Field}
+use Rattle.sw_core.specs.Option.{option_writes, option_reads, option_spot, option_skips}
+use Rattle.sw_core.specs.OrderedMap.{ordered_map_reads}
+use Rattle.sw_core.specs.Parts.{reading}
 use Rattle.sw_core.specs.Recoding.{answer, skipped}
 use Rattle.sw_core.specs.Record.{record_reads, record_spot, record_skips, record_writes}
+use Rattle.sw_core.specs.Tuple.{tuple_writes, tuple_reads, tuple_spot, tuple_skips}
 use Rattle.sw_core.specs.Vec.{list_writes, list_reads, list_spot, list_skips}
 use Rattle.sw_core.specs.declared.recode.RecodeError.{RecodeError}
 use Rattle.sw_policy.specs.Options.{Reader, reader}
@@ -28,8 +34,7 @@ use Rattle.sw_policy.specs.PickFirst.{pick_reads, pick_skips}
 use Rattle.sw_policy.specs.OneOrMany.{one_or_many_writes, one_or_many_reads, one_or_many_skips}
 use Rattle.sw_json.specs.Spelled.{spelled}
 use Rattle.sw_json.specs.Text.{image_text}
-use Rattle.sw_tool.specs.Numbers.{below, id_reads, flex_options}
-use Rattle.sw_tool.specs.Settings.{settings_names, settings_fields, settings_writes}
+use Rattle.sw_tool.specs.Settings.{settings_names, settings_fields}
 use Rattle.sw_tool.specs.declared.command.Profile.{Profile}
 use Rattle.sw_tool.specs.declared.command.Profile.TheVariants.{Ids, Any, Table, Flex, Names, Lists, Keys, Wrap, Settings}
 
@@ -56,9 +61,21 @@ pub record Nest : Type 0 where
 abbrev nest : Reads → Spots → Skips → Writes → Form → Nest
 nest reads spot skips writes expr = record { reads = reads; spot = spot; skips = skips; writes = writes; expr = expr }
 
+-- a text that spells a number below 2^32
+abbrev id_reads : Reads
+id_reads = display_reads (unsigned_parses (2 ^ 32))
+
 -- a text that spells a number from -2^31 to 2^31 - 1
 abbrev key_reads : Reads
 key_reads = display_reads (signed_parses (2 ^ 31))
+
+-- a number below that limit
+abbrev below : ℕ → Reads
+below limit = number_reads (is_below limit)
+
+-- a number below 2^32, or a text that spells it
+abbrev flex_options : List Reader
+flex_options = reader (below (2 ^ 32)) no_skips ∷ reader id_reads no_skips ∷ []
 
 -- a number below 2^32 that was set aside
 abbrev aside_options : List Reader
@@ -83,6 +100,20 @@ texts_spot = entries_spot text_reads own_spot no_skips any_reads any_spot no_ski
 
 abbrev texts_skips : Skips
 texts_skips = entries_skips text_reads own_spot no_skips any_reads any_spot no_skips
+
+-- the fields of settings: a text, one number or many, two numbers or none, and a map of texts
+abbrev settings : List Field
+settings =
+    let ids = pick_reads flex_options in
+    let skips = pick_skips flex_options in
+    let both = reading (below (2 ^ 32)) own_spot no_skips ∷ reading (below (2 ^ 32)) own_spot no_skips ∷ [] in
+    settings_fields (reading text_reads own_spot no_skips) (reading (one_or_many_reads ids own_spot skips) own_spot (one_or_many_skips ids own_spot skips))
+    (reading (option_reads (tuple_reads both)) (option_spot (tuple_spot both)) (option_skips (tuple_skips both)))
+    (reading (ordered_map_reads text_order text_reads own_spot no_skips text_reads own_spot no_skips) (entries_spot text_reads own_spot no_skips text_reads own_spot no_skips)
+    (entries_skips text_reads own_spot no_skips text_reads own_spot no_skips))
+
+abbrev settings_writes : List Writes
+settings_writes = text_writes ∷ one_or_many_writes true number_writes ∷ option_writes (tuple_writes (number_writes ∷ number_writes ∷ [])) ∷ entries_writes text_writes text_writes ∷ []
 
 abbrev number : Form
 number = leaf number_facts
@@ -115,7 +146,7 @@ nest_of Wrap =
     (one_or_many (map text (leaf any_facts)))
 nest_of Settings =
     let parts = text ∷ one_or_many (pick_first number (form text no_forms)) ∷ option (tuple (forms (number ∷ number ∷ []))) ∷ key_map text text ∷ [] in
-    nest (record_reads false settings_fields) (record_spot false settings_fields) (record_skips false settings_fields) (record_writes settings_names settings_writes) (fields (forms parts) false Exact)
+    nest (record_reads false settings) (record_spot false settings) (record_skips false settings) (record_writes settings_names settings_writes) (fields (forms parts) false Exact)
 
 -- what is blamed in the nest, where a JSON text is recoded
 unfoldable pub blame_of : Profile → Option Blame

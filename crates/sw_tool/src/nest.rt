@@ -29,14 +29,14 @@ pub(crate) trait Nest {
     type Adapter: Adapter<Self::Value>;
 }
 
-/// What stands for a sound nest over JSON.
-pub(crate) type Token<N> = Faithful<<N as Nest>::Adapter, <N as Nest>::Value, JsonWire>;
+/// What stands for a sound nest over JSON, of an adapter with the type of its values.
+pub(crate) type Token<A, T> = Faithful<A, T, JsonWire>;
 
 /// The token of the nest, or what is blamed in it.
-pub(crate) fn vet<N: Nest>(alloc: Global) -> Result<Token<N>, Outcome>
-    ensures { IsVetted result (blame N.Adapter.expr (plain Json)) }
+pub(crate) fn vet<A: Adapter<T>, T: Meant>(alloc: Global) -> Result<Token<A, T>, Outcome>
+    ensures { IsVetted result (blame A.expr (plain Json)) }
 {
-    match faithful::<N::Adapter, N::Value, JsonWire>(alloc) {
+    match faithful::<A, T, JsonWire>(alloc) {
         Ok(token) => Ok(token),
         Err(CheckFail::Blame(blame)) => Err(blamed(alloc, blame)),
         Err(CheckFail::Memory) => Err(Outcome::Memory),
@@ -55,15 +55,15 @@ fn blamed(alloc: Global, blame: Blame) -> Outcome
 
 /// The JSON text of the value that the bytes mean to the nest, with the text of the log of what was passed
 /// over; or why there is none.
-pub(crate) fn convert<N: Nest>(
+pub(crate) fn convert<A: Adapter<T>, T: Meant>(
     alloc: Global,
-    token: &Token<N>,
+    token: &Token<A, T>,
     bytes: &[u8],
 ) -> Result<(Vec<u8>, String), Outcome>
-    ensures { IsConverted result (json_answer N.Adapter.reads N.Adapter.spot N.Adapter.writes bytes.now) (json_log N.Adapter.skips bytes.now) bytes.now }
+    ensures { IsConverted result (json_answer A.reads A.spot A.writes bytes.now) (json_log A.skips bytes.now) bytes.now }
 {
     let mut log = Skipped::new(alloc);
-    match As::<N::Adapter>::recode::<N::Value, JsonWire>(alloc, token, &mut log, bytes) {
+    match As::<A>::recode::<T, JsonWire>(alloc, token, &mut log, bytes) {
         Ok((_, text)) => match log_text(alloc, bytes, log.notes()) {
             Ok(told) => Ok((text, told)),
             Err(_) => Err(Outcome::Memory),

@@ -1,7 +1,8 @@
 //! The nests that the program knows, each with the type of its values.
 
 use crate::nest::Nest;
-use crate::settings::{Settings, SettingsAs};
+use crate::settings::SettingsAs;
+use std::collections::BTreeMap;
 use std::marker::PhantomData;
 use sw_core::display::DisplayFromStr;
 use sw_core::formats::{PreferMany, PreferOne};
@@ -83,11 +84,11 @@ impl Nest for OneOrManyMaps {
     type Adapter = OneOrMany<Map<Same, Same>, PreferMany>;
 }
 
-/// A record of settings.
-pub(crate) struct Recorded;
-
-impl Nest for Recorded {
-    type Value = Settings;
-
-    type Adapter = SettingsAs;
-}
+/// The adapter of settings: a record of a text, of one number or a list of numbers, each as a text too, of two numbers or
+/// none, and of a map of texts. No nest names it, since its parts are generic in tuples.
+pub(crate) type SettingsNest = SettingsAs<
+    Same,
+    OneOrMany<PickFirst<(Same, DisplayFromStr)>, PreferOne>,
+    Option<(Same, Same)>,
+    BTreeMap<Same, Same>,
+>;

@@ -16,14 +16,17 @@ use crate::names::grade_name;
 use crate::nest::{Nest, convert, vet};
 use crate::nests::{
     AsItStands, AsideKeys, ByteTable, Flexible, NumberTexts, OneOrManyLists, OneOrManyMaps,
-    OneOrManyTexts, Recorded,
+    OneOrManyTexts, SettingsNest,
 };
 use crate::outcome::Outcome;
 use crate::output::write_line;
+use crate::settings::Settings;
 use crate::sink::Sink;
 use crate::source::Source;
 use std::alloc::Global;
+use sw_core::adapter::Adapter;
 use sw_elem::any::Any;
+use sw_tree::meant::Meant;
 
 /// Recodes what the source gives through the profile's nest, into the sink. Where the nest isn't sound,
 /// neither is touched.
@@ -48,7 +51,7 @@ pub(crate) fn recode<S: Source, K: Sink>(
         Profile::Lists => recode_by::<OneOrManyLists, S, K>(alloc, source, sink),
         Profile::Keys => recode_by::<AsideKeys, S, K>(alloc, source, sink),
         Profile::Wrap => recode_by::<OneOrManyMaps, S, K>(alloc, source, sink),
-        Profile::Settings => recode_by::<Recorded, S, K>(alloc, source, sink),
+        Profile::Settings => recode_through::<SettingsNest, Settings, S, K>(alloc, source, sink),
     }
 }
 
@@ -67,24 +70,38 @@ pub(crate) fn check<K: Sink>(alloc: Global, profile: Profile, sink: &mut K) -> O
         Profile::Lists => check_by::<OneOrManyLists, K>(alloc, sink),
         Profile::Keys => check_by::<AsideKeys, K>(alloc, sink),
         Profile::Wrap => check_by::<OneOrManyMaps, K>(alloc, sink),
-        Profile::Settings => check_by::<Recorded, K>(alloc, sink),
+        Profile::Settings => check_through::<SettingsNest, Settings, K>(alloc, sink),
     }
 }
 
-/// Recodes by the nest: asks for its token, reads the source to its end, and writes what the
-/// nest makes of the text.
+/// Recodes by the nest of that name.
 fn recode_by<N: Nest, S: Source, K: Sink>(alloc: Global, source: &mut S, sink: &mut K) -> Outcome
     ensures recoded { let from : Change = record { old = S.left source.old; new = S.left source.new; before = S.faults source.old; after = S.faults source.new } in
         let to : Change = record { old = K.taken sink.old; new = K.taken sink.new; before = K.faults sink.old; after = K.faults sink.new } in
         Recoded result from to (blame N.Adapter.expr (plain Json)) (json_answer N.Adapter.reads N.Adapter.spot N.Adapter.writes) (json_log N.Adapter.skips) }
     ensures untouched { blame N.Adapter.expr (plain Json) ≢ None → (source.new ≡ source.old) × (sink.new ≡ sink.old) }
 {
-    let token = match vet::<N>(alloc) {
+    recode_through::<N::Adapter, N::Value, S, K>(alloc, source, sink)
+}
+
+/// Recodes through the adapter: asks for the token of the nest, reads the source to its end, and
+/// writes what the nest makes of the text.
+fn recode_through<A: Adapter<T>, T: Meant, S: Source, K: Sink>(
+    alloc: Global,
+    source: &mut S,
+    sink: &mut K,
+) -> Outcome
+    ensures recoded { let from : Change = record { old = S.left source.old; new = S.left source.new; before = S.faults source.old; after = S.faults source.new } in
+        let to : Change = record { old = K.taken sink.old; new = K.taken sink.new; before = K.faults sink.old; after = K.faults sink.new } in
+        Recoded result from to (blame A.expr (plain Json)) (json_answer A.reads A.spot A.writes) (json_log A.skips) }
+    ensures untouched { blame A.expr (plain Json) ≢ None → (source.new ≡ source.old) × (sink.new ≡ sink.old) }
+{
+    let token = match vet::<A, T>(alloc) {
         Ok(token) => token,
         Err(outcome) => return outcome,
     };
     match read_all(alloc, source) {
-        Ok(bytes) => match convert::<N>(alloc, &token, bytes.as_slice()) {
+        Ok(bytes) => match convert::<A, T>(alloc, &token, bytes.as_slice()) {
             Ok((text, log)) => put(sink, text.as_slice(), log),
             Err(outcome) => outcome,
         },
@@ -94,12 +111,20 @@ fn recode_by<N: Nest, S: Source, K: Sink>(alloc: Global, source: &mut S, sink: &
     }
 }
 
-/// Writes the grade of the nest.
+/// Writes the grade of the nest of that name.
 fn check_by<N: Nest, K: Sink>(alloc: Global, sink: &mut K) -> Outcome
     ensures { let to : Change = record { old = K.taken sink.old; new = K.taken sink.new; before = K.faults sink.old; after = K.faults sink.new } in
         Graded result to (blame N.Adapter.expr (plain Json)) (grade N.Adapter.expr (plain Json)) }
 {
-    match vet::<N>(alloc) {
+    check_through::<N::Adapter, N::Value, K>(alloc, sink)
+}
+
+/// Writes the grade of the nest of the adapter.
+fn check_through<A: Adapter<T>, T: Meant, K: Sink>(alloc: Global, sink: &mut K) -> Outcome
+    ensures { let to : Change = record { old = K.taken sink.old; new = K.taken sink.new; before = K.faults sink.old; after = K.faults sink.new } in
+        Graded result to (blame A.expr (plain Json)) (grade A.expr (plain Json)) }
+{
+    match vet::<A, T>(alloc) {
         Ok(token) => put(
             sink,
             grade_name(token.grade()).as_bytes(),

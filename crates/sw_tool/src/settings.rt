@@ -2,17 +2,14 @@
 
 use std::alloc::{AllocError, Global};
 use std::collections::BTreeMap;
+use std::marker::PhantomData;
 use sw_check::expr::Expr;
 use sw_check::exprs::ExprList;
 use sw_check::grade::Grade;
 use sw_core::adapter::{Adapter, DeserializeAs, SerializeAs};
-use sw_core::display::DisplayFromStr;
 use sw_core::fields::{Fields, read_field, write_field};
-use sw_core::formats::PreferOne;
 use sw_core::record::read_record;
-use sw_core::same::Same;
 use sw_elem::refuse::refused_at;
-use sw_policy::{OneOrMany, PickFirst};
 use sw_tree::builds::Builds;
 use sw_tree::fail::{DeError, DeFail, SerFail};
 use sw_tree::meant::{Meant, Named};
@@ -50,30 +47,28 @@ impl Meant for Settings {
     }
 }
 
-/// One number or a list of numbers, each as a text too; a list of one is written as its number.
-type Ids = OneOrMany<PickFirst<(Same, DisplayFromStr)>, PreferOne>;
-
-/// Null, or a list of two numbers.
-type Limits = Option<(Same, Same)>;
-
-/// A map from texts to texts, in the order of its keys.
-type Labels = BTreeMap<Same, Same>;
-
 /// What has been read of settings.
 #[derive(Drop)]
-struct SettingsFields {
+struct SettingsFields<A, B, C, D> {
     name: Option<String>,
     ids: Option<Vec<u32>>,
     limits: Option<Option<(u32, u32)>>,
     labels: Option<BTreeMap<String, String>>,
+    by: PhantomData<(A, B, C, D)>,
 }
 
-impl Fields<Settings> for SettingsFields {
+impl<
+    A: DeserializeAs<String>,
+    B: DeserializeAs<Vec<u32>>,
+    C: DeserializeAs<Option<(u32, u32)>>,
+    D: DeserializeAs<BTreeMap<String, String>>,
+> Fields<Settings> for SettingsFields<A, B, C, D> {
     ghost use Rattle.std.specs.Prelude.{[], ◌∷◌, false, option_map};
     ghost use Rattle.sw_tree.specs.Meant.{text_meaning, unsigned_meaning, list_meaning, option_meaning, pair_meaning};
+    ghost use Rattle.sw_core.specs.Parts.{reading};
     ghost use Rattle.sw_tool.specs.Settings.{settings_fields};
 
-    ghost known = { settings_fields };
+    ghost known = { settings_fields (reading A.reads A.spot A.skips) (reading B.reads B.spot B.skips) (reading C.reads C.spot C.skips) (reading D.reads D.spot D.skips) };
 
     ghost strict = { false };
 
@@ -81,12 +76,13 @@ impl Fields<Settings> for SettingsFields {
 
     ghost slots = { λ f. option_map text_meaning f.name ∷ option_map (λ v. list_meaning unsigned_meaning v.items) f.ids ∷ option_map (option_meaning (pair_meaning unsigned_meaning unsigned_meaning)) f.limits ∷ option_map (λ m. list_meaning (pair_meaning text_meaning text_meaning) m.entries) f.labels ∷ [] };
 
-    fn none() -> SettingsFields {
+    fn none() -> SettingsFields<A, B, C, D> {
         SettingsFields {
             name: None,
             ids: None,
             limits: None,
             labels: None,
+            by: PhantomData,
         }
     }
 
@@ -100,9 +96,9 @@ impl Fields<Settings> for SettingsFields {
         log: &mut Skipped,
     ) -> Result<(), DeFail> {
         match name {
-            "name" => read_field::<String, Same>(alloc, key, value, &mut self.name, mode, log),
-            "ids" => read_field::<Vec<u32>, Ids>(alloc, key, value, &mut self.ids, mode, log),
-            "limits" => read_field::<Option<(u32, u32)>, Limits>(
+            "name" => read_field::<String, A>(alloc, key, value, &mut self.name, mode, log),
+            "ids" => read_field::<Vec<u32>, B>(alloc, key, value, &mut self.ids, mode, log),
+            "limits" => read_field::<Option<(u32, u32)>, C>(
                 alloc,
                 key,
                 value,
@@ -110,7 +106,7 @@ impl Fields<Settings> for SettingsFields {
                 mode,
                 log,
             ),
-            "labels" => read_field::<BTreeMap<String, String>, Labels>(
+            "labels" => read_field::<BTreeMap<String, String>, D>(
                 alloc,
                 key,
                 value,
@@ -146,15 +142,23 @@ impl Fields<Settings> for SettingsFields {
     }
 }
 
-/// Settings as a map of `name`, `ids`, `limits` and `labels`, written in that order. Without limits there are none;
-/// each other field is required, in that order. Other names are passed over with their values.
-pub(crate) struct SettingsAs;
+/// Settings as a map of `name` by `A`, `ids` by `B`, `limits` by `C` and `labels` by `D`, written in that order. Without
+/// limits there are none; each other field is required, in that order. Other names are passed over with their values.
+pub(crate) struct SettingsAs<A, B, C, D> {
+    by: PhantomData<(A, B, C, D)>,
+}
 
-impl SerializeAs<Settings> for SettingsAs {
+impl<
+    A: SerializeAs<String>,
+    B: SerializeAs<Vec<u32>>,
+    C: SerializeAs<Option<(u32, u32)>>,
+    D: SerializeAs<BTreeMap<String, String>>,
+> SerializeAs<Settings> for SettingsAs<A, B, C, D> {
+    ghost use Rattle.std.specs.Prelude.{[], ◌∷◌};
     ghost use Rattle.sw_core.specs.Record.{record_writes};
-    ghost use Rattle.sw_tool.specs.Settings.{settings_names, settings_writes};
+    ghost use Rattle.sw_tool.specs.Settings.{settings_names};
 
-    ghost writes = { record_writes settings_names settings_writes };
+    ghost writes = { record_writes settings_names (A.writes ∷ B.writes ∷ C.writes ∷ D.writes ∷ []) };
 
     fn write_as<O: Builds>(
         alloc: Global,
@@ -163,22 +167,22 @@ impl SerializeAs<Settings> for SettingsAs {
         mode: Mode,
     ) -> Result<(), SerFail> {
         out.open_map(4)?;
-        write_field::<String, Same, O>(alloc, out, "name", &source.name, mode)?;
-        write_field::<Vec<u32>, Ids, O>(alloc, out, "ids", &source.ids, mode)?;
-        write_field::<Option<(u32, u32)>, Limits, O>(alloc, out, "limits", &source.limits, mode)?;
-        write_field::<BTreeMap<String, String>, Labels, O>(
-            alloc,
-            out,
-            "labels",
-            &source.labels,
-            mode,
-        )?;
+        write_field::<String, A, O>(alloc, out, "name", &source.name, mode)?;
+        write_field::<Vec<u32>, B, O>(alloc, out, "ids", &source.ids, mode)?;
+        write_field::<Option<(u32, u32)>, C, O>(alloc, out, "limits", &source.limits, mode)?;
+        write_field::<BTreeMap<String, String>, D, O>(alloc, out, "labels", &source.labels, mode)?;
         out.close()
     }
 }
 
-impl DeserializeAs<Settings> for SettingsAs {
+impl<
+    A: DeserializeAs<String>,
+    B: DeserializeAs<Vec<u32>>,
+    C: DeserializeAs<Option<(u32, u32)>>,
+    D: DeserializeAs<BTreeMap<String, String>>,
+> DeserializeAs<Settings> for SettingsAs<A, B, C, D> {
     ghost use Rattle.std.specs.Prelude.{[], ◌∷◌, false, refl};
+    ghost use Rattle.sw_core.specs.Parts.{reading};
     ghost use Rattle.sw_core.specs.Record.{record_reads, record_spot, record_skips};
     ghost use Rattle.sw_core.specs.Laws.Parts.{read_by};
     ghost use Rattle.sw_core.specs.Laws.Record.{record_lawful};
@@ -188,11 +192,11 @@ impl DeserializeAs<Settings> for SettingsAs {
 
     ghost FREE = { false };
 
-    ghost reads = { record_reads false settings_fields };
+    ghost reads = { record_reads false (settings_fields (reading A.reads A.spot A.skips) (reading B.reads B.spot B.skips) (reading C.reads C.spot C.skips) (reading D.reads D.spot D.skips)) };
 
-    ghost spot = { record_spot false settings_fields };
+    ghost spot = { record_spot false (settings_fields (reading A.reads A.spot A.skips) (reading B.reads B.spot B.skips) (reading C.reads C.spot C.skips) (reading D.reads D.spot D.skips)) };
 
-    ghost skips = { record_skips false settings_fields };
+    ghost skips = { record_skips false (settings_fields (reading A.reads A.spot A.skips) (reading B.reads B.spot B.skips) (reading C.reads C.spot C.skips) (reading D.reads D.spot D.skips)) };
 
     fn deserialize_as(
         alloc: Global,
@@ -200,54 +204,52 @@ impl DeserializeAs<Settings> for SettingsAs {
         mode: Mode,
         log: &mut Skipped,
     ) -> Result<Settings, DeFail> {
-        read_record::<Settings, SettingsFields>(alloc, view, mode, log)
+        read_record::<Settings, SettingsFields<A, B, C, D>>(alloc, view, mode, log)
     }
 
     ghost lawful_reading = { record_lawful
         false
-        settings_fields
-        (read_by ⟦<Same as DeserializeAs<String>>⟧.skips ⟦<Same as DeserializeAs<String>>⟧.lawful_reading
-        ∷ read_by ⟦<Ids as DeserializeAs<Vec<u32>>>⟧.skips ⟦<Ids as DeserializeAs<Vec<u32>>>⟧.lawful_reading
-        ∷ read_by ⟦<Limits as DeserializeAs<Option<(u32, u32)>>>⟧.skips ⟦<Limits as DeserializeAs<Option<(u32, u32)>>>⟧.lawful_reading
-        ∷ read_by ⟦<Labels as DeserializeAs<BTreeMap<String, String>>>⟧.skips ⟦<Labels as DeserializeAs<BTreeMap<String, String>>>⟧.lawful_reading
-        ∷ [])
+        (settings_fields (reading A.reads A.spot A.skips) (reading B.reads B.spot B.skips) (reading C.reads C.spot C.skips) (reading D.reads D.spot D.skips))
+        (read_by A.skips A.lawful_reading ∷ read_by B.skips B.lawful_reading ∷ read_by C.skips C.lawful_reading ∷ read_by D.skips D.lawful_reading ∷ [])
         refl
         (tt, (tt, (tt, (tt, tt)))) };
 }
 
-impl Adapter<Settings> for SettingsAs {
+impl<
+    A: Adapter<String>,
+    B: Adapter<Vec<u32>>,
+    C: Adapter<Option<(u32, u32)>>,
+    D: Adapter<BTreeMap<String, String>>,
+> Adapter<Settings> for SettingsAs<A, B, C, D> {
     ghost use Rattle.std.specs.Prelude.{[], ◌∷◌, false, refl};
     ghost use Rattle.sw_check.specs.Form.{forms, fields};
     ghost use Rattle.sw_check.specs.declared.grade.Grade.TheVariants.{Exact};
+    ghost use Rattle.sw_core.specs.Parts.{reading};
     ghost use Rattle.sw_core.specs.Record.{record_norm};
     ghost use Rattle.sw_core.specs.Laws.Parts.{kept};
     ghost use Rattle.sw_core.specs.Laws.Record.{record_keeps};
     ghost use Rattle.sw_tool.specs.Settings.{settings_fields};
 
-    ghost expr = { fields (forms (⟦<Same as Adapter<String>>⟧.expr ∷ ⟦<Ids as Adapter<Vec<u32>>>⟧.expr ∷ ⟦<Limits as Adapter<Option<(u32, u32)>>>⟧.expr ∷ ⟦<Labels as Adapter<BTreeMap<String, String>>>⟧.expr ∷ [])) false Exact };
+    ghost expr = { fields (forms (A.expr ∷ B.expr ∷ C.expr ∷ D.expr ∷ [])) false Exact };
 
-    ghost norm = { record_norm (⟦<Same as Adapter<String>>⟧.norm ∷ ⟦<Ids as Adapter<Vec<u32>>>⟧.norm ∷ ⟦<Limits as Adapter<Option<(u32, u32)>>>⟧.norm ∷ ⟦<Labels as Adapter<BTreeMap<String, String>>>⟧.norm ∷ []) };
+    ghost norm = { record_norm (A.norm ∷ B.norm ∷ C.norm ∷ D.norm ∷ []) };
 
-    ghost assumes = { ⟦<Same as Adapter<String>>⟧.assumes × (⟦<Ids as Adapter<Vec<u32>>>⟧.assumes × (⟦<Limits as Adapter<Option<(u32, u32)>>>⟧.assumes × (⟦<Labels as Adapter<BTreeMap<String, String>>>⟧.assumes × Unit {0}))) };
+    ghost assumes = { A.assumes × (B.assumes × (C.assumes × (D.assumes × Unit {0}))) };
 
     fn describe(alloc: Global) -> Result<Expr, AllocError> {
         let mut parts = ExprList::new(alloc);
-        parts.push(<Same as Adapter<String>>::describe(alloc)?)?;
-        parts.push(<Ids as Adapter<Vec<u32>>>::describe(alloc)?)?;
-        parts.push(<Limits as Adapter<Option<(u32, u32)>>>::describe(alloc)?)?;
-        parts.push(<Labels as Adapter<BTreeMap<String, String>>>::describe(alloc)?)?;
+        parts.push(A::describe(alloc)?)?;
+        parts.push(B::describe(alloc)?)?;
+        parts.push(C::describe(alloc)?)?;
+        parts.push(D::describe(alloc)?)?;
         Ok(Expr::fields(parts, false, Grade::Exact))
     }
 
     ghost keeps = { record_keeps
         false
-        settings_fields
+        (settings_fields (reading A.reads A.spot A.skips) (reading B.reads B.spot B.skips) (reading C.reads C.spot C.skips) (reading D.reads D.spot D.skips))
         refl
-        (kept ⟦<Same as Adapter<String>>⟧.keeps
-        ∷ kept ⟦<Ids as Adapter<Vec<u32>>>⟧.keeps
-        ∷ kept ⟦<Limits as Adapter<Option<(u32, u32)>>>⟧.keeps
-        ∷ kept ⟦<Labels as Adapter<BTreeMap<String, String>>>⟧.keeps
-        ∷ [])
+        (kept A.keeps ∷ kept B.keeps ∷ kept C.keeps ∷ kept D.keeps ∷ [])
         refl
         false
         Exact };

@@ -8,6 +8,6 @@ use Rattle.sw_tool.proofs.nest.convert.Goals as goal
 
 pub log_text-requires : goal.log_text-requires
 log_text-requires g c =
-    let log = json_log g.N.Adapter.DeserializeAs.skips c.args.bytes.now in
+    let log = json_log g.A.DeserializeAs.skips c.args.bytes.now in
     let logged : c.notes.result.now ≡ log = c.notes.ensures ∙ c.in-Ok.ensures.logs ∙ ap (λ (old : List Refusal). old ++ log) c.new-log.ensures in
-    logged_nodes g.N.Adapter.DeserializeAs.reads g.N.Adapter.DeserializeAs.spot g.N.Adapter.DeserializeAs.skips g.N.Adapter.SerializeAs.writes c.args.bytes.now _ _ (g.met.N.Adapter.Adapter.keeps.note_kinds (plain Json)) c.in-Ok.ensures.answers logged
+    logged_nodes g.A.DeserializeAs.reads g.A.DeserializeAs.spot g.A.DeserializeAs.skips g.A.SerializeAs.writes c.args.bytes.now _ _ (g.met.A.Adapter.keeps.note_kinds (plain Json)) c.in-Ok.ensures.answers logged
