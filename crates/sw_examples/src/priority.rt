@@ -68,25 +68,33 @@ impl Meant for Priority {
 }
 
 impl Ranked for Priority {
+    ghost use Rattle.std.specs.Prelude.{◌^◌};
     ghost use Rattle.sw_tree.specs.LeafRanks.{number_order};
+    ghost use Rattle.sw_tree.specs.Meant.{IsBelow};
+    ghost use Rattle.sw_tree.specs.Laws.LeafRanks.{number_ranks, unsigned_order};
     ghost use Rattle.sw_examples.specs.Priority.{backwards};
     ghost use Rattle.sw_examples.specs.Laws.Priority.{backwards_ranks};
 
     ghost order = { backwards number_order };
 
-    ghost order_is = { λ x y. ⟦<u8 as Ranked>⟧.order_is y.level x.level };
+    ghost order_is = { λ x y. unsigned_order y.level x.level };
 
-    ghost ranks = { backwards_ranks ⟦<u8 as Ranked>⟧.ranks };
+    ghost ranks = { backwards_ranks (number_ranks (IsBelow (2 ^ 8))) };
 }
 
 impl Keyed for Priority {
+    ghost use Rattle.std.specs.Prelude.{◌^◌};
+    ghost use Rattle.std.specs.Hash as fed;
+    ghost use Rattle.sw_tree.specs.Meant.{IsBelow};
+    ghost use Rattle.sw_tree.specs.Laws.LeafRanks.{below_apart};
+    ghost use Rattle.sw_tree.specs.Laws.LeafSame.{unsigned_same, unsigned_alike};
     ghost use Rattle.sw_examples.specs.Laws.Priority.{backwards_apart};
 
-    ghost apart = { backwards_apart ⟦<u8 as Keyed>⟧.apart };
+    ghost apart = { backwards_apart (below_apart (2 ^ 8)) };
 
-    ghost same = { λ x y. ⟦<u8 as Keyed>⟧.same x.level y.level };
+    ghost same = { λ x y. unsigned_same (IsBelow (2 ^ 8)) x.level y.level };
 
-    ghost alike = { λ x y. ⟦<u8 as Keyed>⟧.alike x.level y.level };
+    ghost alike = { λ x y. unsigned_alike (IsBelow (2 ^ 8)) fed.u8 x.level y.level };
 }
 
 /// Written as its number.
@@ -103,8 +111,11 @@ impl Serialize for Priority {
 /// Read as its number.
 impl Deserialize for Priority {
     ghost use Rattle.std.specs.Prelude.{◌^◌, true};
+    ghost use Rattle.std.proofs.Common.{lit≤};
+    ghost use Rattle.sw_tree.specs.Meant.{IsBelow};
     ghost use Rattle.sw_elem.specs.Equations.{own_spot, no_skips};
     ghost use Rattle.sw_elem.specs.Numbers.{is_below, number_reads};
+    ghost use Rattle.sw_elem.specs.Laws.Numbers.{number_lawful, unsigned_integer};
 
     const FREE: bool = true;
 
@@ -128,11 +139,17 @@ impl Deserialize for Priority {
         }
     }
 
-    ghost lawful_reading = { ⟦<u8 as Deserialize>⟧.lawful_reading };
+    ghost lawful_reading = { number_lawful _ (is_below (2 ^ 8)) (IsBelow (2 ^ 8)) (unsigned_integer (2 ^ 8) (lit≤ tt)) };
 }
 
 impl Element for Priority {
+    ghost use Rattle.std.specs.Prelude.{refl, ◌^◌};
+    ghost use Rattle.std.proofs.Common.{lit≤};
+    ghost use Rattle.sw_tree.specs.Meant.{IsBelow};
     ghost use Rattle.sw_elem.specs.Facts.{number_facts};
+    ghost use Rattle.sw_elem.specs.Numbers.{is_below};
+    ghost use Rattle.sw_elem.specs.Laws.KeyedLeaf.{number_keeps};
+    ghost use Rattle.sw_elem.specs.Laws.Numbers.{unsigned_integer};
 
     ghost known = { number_facts };
 
@@ -140,7 +157,7 @@ impl Element for Priority {
         sw_elem::facts::number_facts()
     }
 
-    ghost keeps = { ⟦<u8 as Element>⟧.keeps };
+    ghost keeps = { number_keeps _ (is_below (2 ^ 8)) (IsBelow (2 ^ 8)) (unsigned_integer (2 ^ 8) (lit≤ tt)) };
 
-    ghost passes_nothing = { ⟦<u8 as Element>⟧.passes_nothing };
+    ghost passes_nothing = { λ _ _. refl };
 }
