@@ -15,6 +15,8 @@ ROOT = pathlib.Path(__file__).resolve().parent.parent
 CRATES = [line.split(":")[0] for line in (ROOT / "crates.txt").read_text().splitlines() if ":" in line]
 OTHER_FLOOR = re.compile(r"^(?:unfoldable )?(?:pub )?use Rattle\.(\w+)\.(?:specs\.Inner|specs\.Laws|proofs)\b")
 INDEXES = ("Lib.antt", "Inner.antt", "Laws.antt")
+# What a node shows of its parts cites the model of views: it counts as of the second floor, whose words it has, though it stands on the first.
+INNER = ("crates/sw_tree/specs/Content.antt",)
 
 
 def lines(path):
@@ -25,8 +27,16 @@ def below(folder):
     return sum(lines(path) for path in folder.rglob("*.antt"))
 
 
-def first_floor(crate):
+def is_inner(path):
+    return str(path.relative_to(ROOT)) in INNER
+
+
+def right_in_specs(crate):
     return [path for path in sorted((ROOT / "crates" / crate / "specs").glob("*.antt")) if path.name not in INDEXES]
+
+
+def first_floor(crate):
+    return [path for path in right_in_specs(crate) if not is_inner(path)]
 
 
 def sentence(path):
@@ -68,6 +78,7 @@ def main():
             findings.extend(imports_of_other_floors(path))
         others = [folder / "specs" / "Inner", folder / "specs" / "Laws", folder / "proofs"]
         rows[crate] = [sum(map(lines, first))] + [below(other) for other in others]
+        rows[crate][1] += sum(lines(path) for path in right_in_specs(crate) if is_inner(path))
     rows["all"] = [sum(column) for column in zip(*rows.values())]
     print(f"{'crate':12}{'first':>8}{'Inner':>8}{'Laws':>8}{'proofs':>8}")
     for crate, row in rows.items():

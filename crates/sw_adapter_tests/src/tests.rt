@@ -2,4 +2,5 @@ mod containers;
 mod hashed;
 mod pairs;
 mod policy;
+mod schemas;
 mod wraps;

@@ -2,6 +2,7 @@
 #![tactic(auto)]
 
 pub mod nonzero;
+mod schema;
 
 pub use nonzero::{
     NonZero, NonZeroI8, NonZeroI16, NonZeroI32, NonZeroI64, NonZeroI128, NonZeroIsize, NonZeroU8,

@@ -1,6 +1,8 @@
 use crate::{NonZero, NonZeroI8, NonZeroU8};
 use std::alloc::{AllocError, Global};
 use sw_elem::{Element, TextForm};
+use sw_schema::json_schema::JsonSchema;
+use sw_schema::valid;
 use sw_tree::doc::Doc;
 use sw_tree::fail::{DeError, DeFail};
 use sw_tree::mode::{Mode, WireKind};
@@ -44,5 +46,24 @@ fn the_text_is_the_numbers(rt: HostRuntime) -> Result<(), AllocError> {
     if let Some(least) = NonZeroI8::new(-128) {
         assert!(rt; least.show(alloc)?.as_str() == "-128");
     }
+    Ok(())
+}
+
+/// Whether that number is valid for the schema of the type.
+fn takes<T: JsonSchema>(alloc: Global, number: i128) -> Result<bool, AllocError> {
+    let schema = T::json_schema(alloc)?;
+    Ok(valid(&schema, &Node::int(Whole::from_i128(number))))
+}
+
+#[test]
+fn the_schema_is_the_numbers(rt: HostRuntime) -> Result<(), AllocError> {
+    let alloc = rt.alloc();
+    assert!(rt; NonZeroU8::schema_name(alloc)?.as_str() == "uint8");
+    assert!(rt; NonZeroI8::schema_id(alloc)?.as_str() == "int8");
+    assert!(rt; NonZeroU8::inline_schema());
+    assert!(rt; takes::<NonZeroU8>(alloc, 255)?);
+    assert!(rt; takes::<NonZeroU8>(alloc, 0)?);
+    assert!(rt; !takes::<NonZeroU8>(alloc, 256)?);
+    assert!(rt; takes::<NonZeroI8>(alloc, -128)?);
     Ok(())
 }

@@ -2,3 +2,5 @@
 pub mod PickFirst
 pub mod OneOrMany
 pub mod OneOrManySet
+pub mod PickSchema
+pub mod ManySchema

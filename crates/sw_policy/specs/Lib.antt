@@ -2,5 +2,6 @@ pub mod Options
 pub mod PickFirst
 pub mod OneOrMany
 pub mod OneOrManySet
+pub mod Definitions
 pub mod Inner
 pub mod Laws

@@ -8,6 +8,8 @@ pub mod one_or_many_set;
 mod options;
 pub mod pick_first;
 pub mod preference;
+mod schema_many;
+mod schema_pick;
 mod sealed;
 
 pub use one_or_many::OneOrMany;

@@ -4,7 +4,7 @@ use Rattle.std.specs.Str.{bytes_eq}
 use Rattle.sw_tool.specs.declared.command.Profile.{Profile}
 use Rattle.sw_tool.specs.declared.command.Profile.TheVariants.{Ids, Any, Table, Flex, Names, Lists, Keys, Wrap, Settings}
 use Rattle.sw_tool.specs.declared.command.Command.{Command}
-use Rattle.sw_tool.specs.declared.command.Command.TheVariants.{Recode, Check}
+use Rattle.sw_tool.specs.declared.command.Command.TheVariants.{Recode, Check, Schema}
 
 -- the first of these names that the word is
 abbrev first_named : List ℕ → List (List ℕ × Profile) → Option Profile
@@ -20,7 +20,9 @@ profile_named word =
 -- the command that a verb and its argument are
 abbrev pub command_of_two : List ℕ → List ℕ → Option Command
 command_of_two verb argument =
-    if bytes_eq verb (codes "recode") then option_map Recode (profile_named argument) else (if bytes_eq verb (codes "check") then option_map Check (profile_named argument) else None)
+    if bytes_eq verb (codes "recode") then option_map Recode (profile_named argument) else
+    (if bytes_eq verb (codes "check") then option_map Check (profile_named argument) else
+    (if bytes_eq verb (codes "schema") then option_map Schema (profile_named argument) else None))
 
 abbrev pub command_in : List (List ℕ) → Option Command
 command_in [] = None

@@ -4,6 +4,7 @@ pub mod Memory
 pub mod Input
 pub mod Output
 pub mod Settings
+pub mod Schemas
 pub mod Command
 pub mod Names
 pub mod Path

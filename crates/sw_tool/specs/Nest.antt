@@ -1,7 +1,11 @@
 -- When each outcome comes.
 use Rattle.std.specs.Prelude.{ℕ, ◌≡◌, ◌<◌, List, [], ◌∷◌, length, Option, Some, None, Result, Ok, Err, IsOkAnd, Vec, String, string_bytes}
 use Rattle.std.specs.declared.alloc.Global.{Global}
+use Rattle.sw_tree.specs.Building.{within}
 use Rattle.sw_tree.specs.Fail.{kind_of_error}
+use Rattle.sw_tree.specs.Tree.{Tree}
+use Rattle.sw_tree.specs.declared.fail.SerError.{SerError}
+use Rattle.sw_tree.specs.declared.fail.SerError.TheVariants as reason
 use Rattle.sw_tree.specs.declared.fail.DeKind.{DeKind}
 use Rattle.sw_tree.specs.declared.fail.Refusal.{Refusal}
 use Rattle.sw_core.specs.declared.recode.RecodeError.TheVariants as error
@@ -10,6 +14,7 @@ use Rattle.sw_tool.specs.Change.{Change, Kept}
 use Rattle.sw_check.specs.PathText.{path_text as blame_path}
 use Rattle.sw_check.specs.declared.blame.Blame.{Blame}
 use Rattle.sw_check.specs.declared.grade.Grade.{Grade}
+use Rattle.sw_json.specs.Text.{json_text}
 use Rattle.sw_tool.specs.Log.{IsLogText}
 use Rattle.sw_tool.specs.Names.{grade_name}
 use Rattle.sw_tool.specs.Path.{IsPathTo}
@@ -100,3 +105,31 @@ IsGradePut o sink g = IsPut o [] sink (line (grade_name g ∷ []))
 abbrev pub Graded : Outcome → Change → Option Blame → Grade → Type 0
 Graded o sink (Some b) g = Blames o b × Kept sink
 Graded o sink None g = IsGradePut o sink g
+
+-- why a tree has no line of JSON: it has more than 128 levels, or a key without an image
+abbrev pub IsUnprinted : SerError → Tree → Type 0
+IsUnprinted reason.TooDeep t = within t ≡ Err reason.TooDeep
+IsUnprinted reason.Key t = json_text t ≡ None
+IsUnprinted _ t = ⊥
+
+-- the outcome of that, or want of memory
+abbrev pub IsUntold : Outcome → Tree → Type 0
+IsUntold (outcome.Unwritable e) t = IsUnprinted e t
+IsUntold outcome.Memory t = Unit {0}
+IsUntold _ t = ⊥
+
+-- the JSON text of the tree, or why there is none
+abbrev pub IsTold : Result (Vec ℕ Global) Outcome → Tree → Type 0
+IsTold (Ok text) t = json_text t ≡ Some text.items
+IsTold (Err o) t = IsUntold o t
+
+-- the line of that text was written whole and there is no log, or a front of the line
+abbrev IsLinePut : Outcome → Change → Option (List ℕ) → Type 0
+IsLinePut o sink (Some text) = IsPut o [] sink (line (text ∷ []))
+IsLinePut o sink None = ⊥
+
+-- The JSON text of the tree and a line feed are written; or nothing, where there is none.
+abbrev pub Published : Outcome → Change → Tree → Type 0
+Published (outcome.Unwritable e) sink t = IsUnprinted e t × Kept sink
+Published outcome.Memory sink t = Kept sink
+Published o sink t = IsLinePut o sink (json_text t)

@@ -2,12 +2,14 @@
 use Rattle.std.specs.Prelude.{ℕ, ◌≡◌, List, Option, Some, None}
 use Rattle.sw_tool.specs.Change.{Change, Kept}
 use Rattle.sw_tool.specs.Command.{command_in}
-use Rattle.sw_tool.specs.Nest.{Recoded, Graded}
+use Rattle.sw_tool.specs.Nest.{Recoded, Graded, Published}
 use Rattle.sw_tool.specs.Outcome.{status_of, line_of}
 use Rattle.sw_tool.specs.Nests.{blame_of, grade_of, answer_of, log_of}
+use Rattle.sw_schema.specs.SchemaTree.{schema_tree}
+use Rattle.sw_tool.specs.Schemas.{schema_of}
 use Rattle.sw_tool.specs.Output.{Notes}
 use Rattle.sw_tool.specs.declared.command.Command.{Command}
-use Rattle.sw_tool.specs.declared.command.Command.TheVariants.{Recode, Check}
+use Rattle.sw_tool.specs.declared.command.Command.TheVariants.{Recode, Check, Schema}
 use Rattle.sw_tool.specs.declared.command.Profile.{Profile}
 use Rattle.sw_tool.specs.declared.outcome.Outcome.{Outcome}
 use Rattle.sw_tool.specs.declared.outcome.Outcome.TheVariants as outcome
@@ -45,10 +47,18 @@ pub record IsGrading (p : Profile) (r : Run) : Type 0 where
   pub source : Kept r.source
   pub graded : Graded outcome r.sink (blame_of p) (grade_of p)
 
+-- nothing is read, and the schema of the profile's nest is written
+pub record IsPublishing (p : Profile) (r : Run) : Type 0 where
+  pub outcome : Outcome
+  pub ends : Ends outcome r
+  pub source : Kept r.source
+  pub published : Published outcome r.sink (schema_tree (schema_of p))
+
 abbrev pub IsRunOf : Option Command → Run → Type 0
 IsRunOf None r = IsUsage r
 IsRunOf (Some (Recode p)) r = IsRecoding p r
 IsRunOf (Some (Check p)) r = IsGrading p r
+IsRunOf (Some (Schema p)) r = IsPublishing p r
 
 -- the command that the words are decides
 abbrev pub IsRun : Run → Type 0

@@ -32,6 +32,8 @@ pub enum Command {
     Recode(Profile),
     /// Say how faithful the profile's nest is.
     Check(Profile),
+    /// Write the schema of what the profile's nest writes.
+    Schema(Profile),
 }
 
 /// The profile of that name.
@@ -59,6 +61,7 @@ fn command_of_two(verb: &str, argument: &str) -> Option<Command>
     match verb {
         "recode" => profile_of(argument).map(Command::Recode),
         "check" => profile_of(argument).map(Command::Check),
+        "schema" => profile_of(argument).map(Command::Schema),
         _ => None,
     }
 }

@@ -16,6 +16,7 @@ mod profile;
 mod report;
 mod run;
 mod settings;
+mod settings_schema;
 mod sink;
 mod source;
 mod standard;

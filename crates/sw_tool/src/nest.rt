@@ -18,15 +18,16 @@ use sw_core::faithful::faithful;
 use sw_core::recode::RecodeError;
 use sw_core::token::Faithful;
 use sw_json::JsonWire;
+use sw_schemas::schema_as::SchemaAdapter;
 use sw_tree::fail::Refusal;
 use sw_tree::meant::Meant;
 use sw_tree::skipped::Skipped;
 
-/// A nest of adapters with the type of its values.
+/// A nest of adapters, with a schema, and with the type of its values.
 pub(crate) trait Nest {
     type Value: Meant;
 
-    type Adapter: Adapter<Self::Value>;
+    type Adapter: SchemaAdapter<Self::Value>;
 }
 
 /// What stands for a sound nest over JSON, of an adapter with the type of its values.

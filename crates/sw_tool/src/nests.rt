@@ -8,9 +8,9 @@ use sw_core::display::DisplayFromStr;
 use sw_core::formats::{PreferMany, PreferOne};
 use sw_core::same::Same;
 use sw_elem::any::Any;
-use sw_elem::element::Element;
 use sw_pairs::Map;
 use sw_policy::{OneOrMany, PickFirst};
+use sw_schema::json_schema::JsonSchema;
 
 /// A list of texts that spell numbers.
 pub(crate) struct NumberTexts;
@@ -24,7 +24,7 @@ impl Nest for NumberTexts {
 /// A value as it stands.
 pub(crate) struct AsItStands<T>(PhantomData<T>);
 
-impl<T: Element> Nest for AsItStands<T> {
+impl<T: JsonSchema> Nest for AsItStands<T> {
     type Value = T;
 
     type Adapter = Same;

@@ -6,9 +6,11 @@ ghost use Rattle.sw_tree.specs.declared.mode.WireKind.TheVariants.{Json};
 ghost use Rattle.sw_check.specs.Blame.{blame};
 ghost use Rattle.sw_check.specs.Grade.{grade};
 ghost use Rattle.sw_tool.specs.Change.{Change};
-ghost use Rattle.sw_tool.specs.Nest.{Recoded, Graded, IsPut};
+ghost use Rattle.sw_schema.specs.SchemaTree.{schema_tree};
+ghost use Rattle.sw_tool.specs.Nest.{Recoded, Graded, IsPut, IsTold, Published};
 ghost use Rattle.sw_tool.specs.Nests.{blame_of, grade_of, answer_of, log_of, json_answer, json_log};
 ghost use Rattle.sw_tool.specs.Output.{line};
+ghost use Rattle.sw_tool.specs.Schemas.{schema_of};
 
 use crate::command::Profile;
 use crate::input::{ReadFail, read_all};
@@ -26,7 +28,12 @@ use crate::source::Source;
 use std::alloc::Global;
 use sw_core::adapter::Adapter;
 use sw_elem::any::Any;
+use sw_json::JsonWire;
+use sw_schema::to_node::ToNodeFail;
+use sw_schemas::schema_as::JsonSchemaAs;
+use sw_tree::fail::{PrintError, SerError};
 use sw_tree::meant::Meant;
+use sw_tree::wire::Wire;
 
 /// Recodes what the source gives through the profile's nest, into the sink. Where the nest isn't sound,
 /// neither is touched.
@@ -71,6 +78,25 @@ pub(crate) fn check<K: Sink>(alloc: Global, profile: Profile, sink: &mut K) -> O
         Profile::Keys => check_by::<AsideKeys, K>(alloc, sink),
         Profile::Wrap => check_by::<OneOrManyMaps, K>(alloc, sink),
         Profile::Settings => check_through::<SettingsNest, Settings, K>(alloc, sink),
+    }
+}
+
+/// Writes the schema of the profile's nest.
+#[tactic(auto, unfolding(crate::specs::Schemas::schema_of))]
+pub(crate) fn schema<K: Sink>(alloc: Global, profile: Profile, sink: &mut K) -> Outcome
+    ensures { let to : Change = record { old = K.taken sink.old; new = K.taken sink.new; before = K.faults sink.old; after = K.faults sink.new } in
+        Published result to (schema_tree (schema_of profile)) }
+{
+    match profile {
+        Profile::Ids => schema_by::<NumberTexts, K>(alloc, sink),
+        Profile::Any => schema_by::<AsItStands<Any>, K>(alloc, sink),
+        Profile::Table => schema_by::<ByteTable, K>(alloc, sink),
+        Profile::Flex => schema_by::<Flexible, K>(alloc, sink),
+        Profile::Names => schema_by::<OneOrManyTexts, K>(alloc, sink),
+        Profile::Lists => schema_by::<OneOrManyLists, K>(alloc, sink),
+        Profile::Keys => schema_by::<AsideKeys, K>(alloc, sink),
+        Profile::Wrap => schema_by::<OneOrManyMaps, K>(alloc, sink),
+        Profile::Settings => schema_through::<SettingsNest, Settings, K>(alloc, sink),
     }
 }
 
@@ -131,6 +157,44 @@ fn check_through<A: Adapter<T>, T: Meant, K: Sink>(alloc: Global, sink: &mut K) 
             String::new(alloc),
         ),
         Err(outcome) => outcome,
+    }
+}
+
+/// Writes the schema of the nest of that name.
+fn schema_by<N: Nest, K: Sink>(alloc: Global, sink: &mut K) -> Outcome
+    ensures { let to : Change = record { old = K.taken sink.old; new = K.taken sink.new; before = K.faults sink.old; after = K.faults sink.new } in
+        Published result to (schema_tree N.Adapter.definition.schema) }
+{
+    schema_through::<N::Adapter, N::Value, K>(alloc, sink)
+}
+
+/// Writes the schema of the nest of the adapter.
+fn schema_through<A: JsonSchemaAs<T>, T: Meant, K: Sink>(alloc: Global, sink: &mut K) -> Outcome
+    ensures { let to : Change = record { old = K.taken sink.old; new = K.taken sink.new; before = K.faults sink.old; after = K.faults sink.new } in
+        Published result to (schema_tree A.definition.schema) }
+{
+    match schema_text::<A, T>(alloc) {
+        Ok(text) => put(sink, text.as_slice(), String::new(alloc)),
+        Err(outcome) => outcome,
+    }
+}
+
+/// The JSON text of the adapter's schema, or why there is none.
+fn schema_text<A: JsonSchemaAs<T>, T: Meant>(alloc: Global) -> Result<Vec<u8>, Outcome>
+    ensures { IsTold result (schema_tree A.definition.schema) }
+{
+    let Ok(schema) = A::json_schema(alloc) else {
+        return Err(Outcome::Memory);
+    };
+    let node = match schema.to_node(alloc) {
+        Ok(node) => node,
+        Err(ToNodeFail::TooDeep) => return Err(Outcome::Unwritable(SerError::TooDeep)),
+        Err(ToNodeFail::Memory) => return Err(Outcome::Memory),
+    };
+    match JsonWire::print(alloc, &node) {
+        Ok(text) => Ok(text),
+        Err(PrintError::Key) => Err(Outcome::Unwritable(SerError::Key)),
+        Err(PrintError::Memory) => Err(Outcome::Memory),
     }
 }
 

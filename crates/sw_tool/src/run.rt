@@ -7,7 +7,7 @@ ghost use Rattle.sw_tool.specs.declared.command.Command.TheVariants.{Recode};
 
 use crate::command::{Command, command_of};
 use crate::outcome::Outcome;
-use crate::profile::{check, recode};
+use crate::profile::{check, recode, schema};
 use crate::report::report;
 use crate::sink::Sink;
 use crate::source::Source;
@@ -18,8 +18,9 @@ use std::alloc::Global;
 ///
 /// For `recode P` it checks, in this order, the words and the nest of the profile, reads the source to
 /// its end, recodes what came through the nest, and writes the new text and a line feed to the sink.
-/// Where the nest isn't sound nothing is read. For `check P` it writes the grade of the nest. The
-/// notes gain the outcome's line, none where the output is written whole and nothing was passed over.
+/// Where the nest isn't sound nothing is read. For `check P` it writes the grade of the nest, and for `schema P`
+/// the schema of what the nest writes, sound or not. The notes gain the outcome's line, none where the output is
+/// written whole and nothing was passed over.
 pub fn run<S: Source, K: Sink, N: Sink>(
     alloc: Global,
     words: &[String],
@@ -43,6 +44,7 @@ pub fn run<S: Source, K: Sink, N: Sink>(
         None => Outcome::Usage,
         Some(Command::Recode(profile)) => recode(alloc, profile, source, sink),
         Some(Command::Check(profile)) => check(alloc, profile, sink),
+        Some(Command::Schema(profile)) => schema(alloc, profile, sink),
     };
     report(notes, &outcome)
 }

@@ -433,3 +433,49 @@ fn what_is_passed_over_is_told_in_order(rt: HostRuntime) -> Result<(), AllocErro
     assert!(rt; notes.bytes() == line.as_slice());
     Ok(())
 }
+
+#[test]
+fn each_nest_has_its_schema(rt: HostRuntime) -> Result<(), AllocError> {
+    let alloc = rt.alloc();
+    for (profile, output) in [
+        (
+            "ids",
+            "{\"type\":\"array\",\"items\":{\"type\":\"string\"}}\n",
+        ),
+        ("any", "true\n"),
+        (
+            "table",
+            "{\"type\":\"object\",\"additionalProperties\":{\"type\":\"array\",\"items\":{\"type\":\"integer\",\"minimum\":0,\"maximum\":255}}}\n",
+        ),
+        (
+            "flex",
+            "{\"type\":\"array\",\"items\":{\"anyOf\":[{\"type\":\"integer\",\"minimum\":0,\"maximum\":4294967295},{\"writeOnly\":true,\"allOf\":[{\"type\":\"string\"}]}]}}\n",
+        ),
+        (
+            "names",
+            "{\"anyOf\":[{\"type\":\"string\"},{\"type\":\"array\",\"items\":{\"type\":\"string\"}}]}\n",
+        ),
+        (
+            "lists",
+            "{\"anyOf\":[{\"type\":\"array\",\"items\":{\"type\":\"integer\",\"minimum\":0,\"maximum\":255}},{\"type\":\"array\",\"items\":{\"type\":\"array\",\"items\":{\"type\":\"integer\",\"minimum\":0,\"maximum\":255}}}]}\n",
+        ),
+        (
+            "keys",
+            "{\"type\":\"object\",\"additionalProperties\":{\"type\":\"boolean\"}}\n",
+        ),
+        (
+            "wrap",
+            "{\"anyOf\":[{\"writeOnly\":true,\"allOf\":[{\"type\":\"object\",\"additionalProperties\":true}]},{\"type\":\"array\",\"items\":{\"type\":\"object\",\"additionalProperties\":true}}]}\n",
+        ),
+        (
+            "settings",
+            "{\"type\":\"object\",\"properties\":{\"name\":{\"type\":\"string\"},\"ids\":{\"anyOf\":[{\"anyOf\":[{\"type\":\"integer\",\"minimum\":0,\"maximum\":4294967295},{\"writeOnly\":true,\"allOf\":[{\"type\":\"string\"}]}]},{\"type\":\"array\",\"items\":{\"anyOf\":[{\"type\":\"integer\",\"minimum\":0,\"maximum\":4294967295},{\"writeOnly\":true,\"allOf\":[{\"type\":\"string\"}]}]}}]},\"limits\":{\"anyOf\":[{\"type\":\"array\",\"prefixItems\":[{\"type\":\"integer\",\"minimum\":0,\"maximum\":4294967295},{\"type\":\"integer\",\"minimum\":0,\"maximum\":4294967295}],\"minItems\":2,\"maxItems\":2},{\"type\":\"null\"}]},\"labels\":{\"type\":\"object\",\"additionalProperties\":{\"type\":\"string\"}}},\"required\":[\"name\",\"ids\",\"labels\"]}\n",
+        ),
+    ] {
+        // neither a byte of the source is taken, nor its first failure
+        let from = source(alloc, b"[", &[0], 1)?;
+        let to = sink(alloc, 1024, &[])?;
+        check(&rt, "schema", profile, from, to, Status::Ok, output, "")?;
+    }
+    Ok(())
+}

@@ -1,7 +1,6 @@
 -- What models and private clauses alone cite.
 pub mod Builder
 pub mod Cells
-pub mod Content
 pub mod Doc
 pub mod DocWriter
 pub mod ForeignSeen

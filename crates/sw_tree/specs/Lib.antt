@@ -5,6 +5,7 @@ pub mod Steps
 pub mod Tree
 pub mod Proper
 pub mod Short
+pub mod Content
 pub mod Foreign
 pub mod Kinds
 pub mod KindsWithin

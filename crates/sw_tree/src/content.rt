@@ -4,7 +4,7 @@ use crate::whole::Whole;
 
 /// What a node is, with its parts.
 #[derive(Clone, Copy)]
-pub(crate) enum Content<'a> {
+pub enum Content<'a> {
     Null,
     Bool(bool),
     Int(Whole),

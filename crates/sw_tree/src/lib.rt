@@ -7,7 +7,7 @@ pub mod builds;
 mod cases;
 mod cell;
 mod containers;
-mod content;
+pub mod content;
 pub mod doc;
 mod doc_writer;
 pub mod fail;
@@ -45,6 +45,7 @@ pub mod write;
 
 pub use builder::DocBuilder;
 pub use builds::Builds;
+pub use content::Content;
 pub use doc::Doc;
 pub use fail::{
     DeError, DeFail, DeKind, PrintError, Refusal, SerError, SerFail, TooDeep, WireError,

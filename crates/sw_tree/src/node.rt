@@ -72,7 +72,7 @@ impl Node {
     ghost use Rattle.std.specs.Prelude.{MatchResult};
     ghost use Rattle.std.specs.Option.{option_copied};
     ghost use Rattle.sw_tree.specs.Tree.{text_at, bytes_at, truth_at, int_at};
-    ghost use Rattle.sw_tree.specs.Inner.Content.{content_tree};
+    ghost use Rattle.sw_tree.specs.Content.{content_tree};
 
     /// The null.
     pub fn null() -> Node
@@ -318,7 +318,7 @@ impl Node {
     }
 
     /// What it is, with its parts.
-    pub(crate) fn content(&self) -> Content<'_>
+    pub fn content(&self) -> Content<'_>
         ensures { content_tree result ≡ self.now }
     {
         match &self.shape {

@@ -88,7 +88,7 @@ module _ (P : Meaning → Type 0) where
   abbrev Inclusive : Meaning → Type 0
   Inclusive = IsRowOf (P ∷ P ∷ IsTruth ∷ [])
 
-  out : (v : Meaning) → Inclusive v → Both (both_bounds v)
+  pub out : (v : Meaning) → Inclusive v → Both (both_bounds v)
   out (list (meaning a (meaning b (meaning (truth c) no_meanings)))) h = (h.0, (h.1.0, tt))
   out (list no_meanings) h = absurd h
   out (list (meaning a no_meanings)) h = absurd h.1

@@ -408,13 +408,13 @@ module _ (n : Names) (names : AreNames n) where
 
 -- ---- results, and the ends of ranges
 
-result-names : AreNames result_names
+pub result-names : AreNames result_names
 result-names = record { one = refl; two = refl; texts = ((first_name (codes "Ok") [] refl).0, (first_name (codes "Err") [] refl).0); three = λ s e. absurd (cc) }
 
 abbrev is_bound : List ℕ → Type 0
 is_bound s = (variant_of bound_names s ≡ Alone) × IsUtf8 s
 
-bound-names : AreNames bound_names
+pub bound-names : AreNames bound_names
 bound-names = record { one = refl; two = refl; texts = ((first_name (codes "Included") [] refl).0, (first_name (codes "Excluded") [] refl).0); three = λ s e. let own : is_bound (codes "Unbounded") = (refl, (first_name (codes "Unbounded") [] refl).0) in let same : codes "Unbounded" ≡ s = cc in subst is_bound same own }
 
 module _ (P Q : Meaning → Type 0) where
@@ -425,7 +425,7 @@ module _ (P Q : Meaning → Type 0) where
   tagged-result (case (suc (suc (suc i))) v) h = absurd h
   tagged-result _ h = absurd h
 
-  result-tagged : (v : Meaning) → IsResultOf P Q v → IsTagged result_names P Q v
+  pub result-tagged : (v : Meaning) → IsResultOf P Q v → IsTagged result_names P Q v
   result-tagged (case zero v) h = h
   result-tagged (case (suc zero) v) h = h
   result-tagged (case (suc (suc i)) v) h = absurd h
@@ -440,7 +440,7 @@ module _ (P : Meaning → Type 0) where
   tagged-bound (case (suc (suc (suc i))) v) h = absurd h
   tagged-bound _ h = absurd h
 
-  bound-tagged : (v : Meaning) → IsBoundOf P v → IsTagged bound_names P P v
+  pub bound-tagged : (v : Meaning) → IsBoundOf P v → IsTagged bound_names P P v
   bound-tagged (case zero v) h = h
   bound-tagged (case (suc zero) v) h = h
   bound-tagged (case (suc (suc zero)) nothing) h = h

@@ -174,7 +174,7 @@ module _ (xs : List Kept) where
 
 -- ---- two parts, which mean a pair
 
-pair-row : (P Q : Meaning → Type 0) (v : Meaning) → IsPairOf P Q v → IsRowOf (P ∷ Q ∷ []) v
+pub pair-row : (P Q : Meaning → Type 0) (v : Meaning) → IsPairOf P Q v → IsRowOf (P ∷ Q ∷ []) v
 pair-row P Q (list (meaning a (meaning b no_meanings))) h = (h.0, (h.1, tt))
 pair-row P Q (list no_meanings) h = absurd h
 pair-row P Q (list (meaning a no_meanings)) h = absurd h

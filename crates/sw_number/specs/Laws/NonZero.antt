@@ -4,7 +4,10 @@ use Rattle.std.proofs.Common.{refl, subst}
 use Rattle.sw_tree.specs.LeafRanks.{number_of}
 use Rattle.sw_tree.specs.Meaning.{Meaning, number}
 use Rattle.sw_tree.specs.Ranks.{Order, Ranks}
+use Rattle.sw_elem.specs.Equations.{Writes}
 use Rattle.sw_elem.specs.Integer.{IsInteger}
+use Rattle.sw_schema.specs.JsonSchema.{WritesSchema}
+use Rattle.sw_schema.specs.Schema.{Schema}
 use Rattle.sw_number.specs.NonZero.{is_nonzero, nonzero_fits, IsNonZeroOf}
 
 both_true : (a b : Bool) → (a && b) ≡ true → (a ≡ true) × (b ≡ true)
@@ -34,3 +37,7 @@ nonzero_ranks ranks = record {
   turned = λ x y h k. ranks.turned x y h.0 k.0;
   chains = λ x y z h k l a b. ranks.chains x y z h.0 k.0 l.0 a b;
 }
+
+-- what all numbers of the type write is valid, and so is what those but 0 write
+pub nonzero_writes_schema : {P : Meaning → Type 0} {w : Writes} {s : Schema} → WritesSchema P w s → WritesSchema (IsNonZeroOf P) w s
+nonzero_writes_schema all = record { fits = λ b v t i h p e. all.fits b v t i h.0 p e }

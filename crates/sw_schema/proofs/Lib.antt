@@ -1,0 +1,4 @@
+pub mod Levels
+pub mod PartLemmas
+pub mod SameLemmas
+pub mod TreeLemmas

@@ -1,0 +1,13 @@
+pub mod Schema
+pub mod Field
+pub mod Form
+pub mod Patterns
+pub mod SameTree
+pub mod Valid
+pub mod SchemaTree
+pub mod ToNode
+pub mod Definition
+pub mod Elements
+pub mod JsonSchema
+pub mod Inner
+pub mod Laws

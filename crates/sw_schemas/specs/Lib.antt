@@ -1,0 +1,4 @@
+pub mod FitsSchema
+pub mod Definitions
+pub mod Shown
+pub mod Laws
