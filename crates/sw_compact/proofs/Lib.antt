@@ -1,0 +1,15 @@
+pub mod Absorbing
+pub mod Fronts
+pub mod Marked
+pub mod Reading
+pub mod Running
+pub mod Values
+pub mod Appending
+pub mod Groups
+pub mod Marks
+pub mod NumberBytes
+pub mod Signs
+pub mod Pieces
+pub mod Exchange
+pub mod Closing
+pub mod Finishing

@@ -1,0 +1,10 @@
+pub mod Lengths
+pub mod Numbers
+pub mod Spelling
+pub mod Located
+pub mod Head
+pub mod Decoding
+pub mod Spelled
+pub mod Texts
+pub mod Inner
+pub mod Laws
