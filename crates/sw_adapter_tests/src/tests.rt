@@ -1,3 +1,4 @@
+mod compact;
 mod containers;
 mod hashed;
 mod pairs;
